@@ -1,0 +1,1 @@
+// The design check: refusals 2 to 5 with their places.

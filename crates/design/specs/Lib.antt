@@ -1,0 +1,3 @@
+pub mod Design
+pub mod Rules
+pub mod Reasons

@@ -1,0 +1,1 @@
+// What a host controller written in C calls.

@@ -1,0 +1,4 @@
+pub mod Cells
+pub mod Sets
+pub mod Roles
+pub mod Places
