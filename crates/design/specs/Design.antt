@@ -8,7 +8,8 @@ use mathlib.Core.List.{List}
 use lib.ListN.{getD, length}
 use lib.Dec.{eqb}
 use Rattle.counting.specs.Counting.{anyBelow}
-use Rattle.geometry.specs.Geometry.{bOf}
+use Rattle.geometry.specs.declared.Geometry.{Geometry}
+use Rattle.geometry.specs.Geometry.{Sound, tuplesOf}
 
 -- the group at position l of row t
 unfoldable pub groupAt : ℕ → List ℕ → ℕ → ℕ → ℕ
@@ -36,3 +37,8 @@ pub record Design (v k b : ℕ) (d : List ℕ) : Type 0 where
   pub groups : (t l : ℕ) → t < b → l < k → groupAt k d t l < v
   pub ascending : (t l : ℕ) → t < b → l + 1 < k → groupAt k d t l < groupAt k d t (l + 1)
   pub pairs : (a c : ℕ) → a < c → c < v → OneRow k b d a c
+
+-- a geometry and a list that none of 2 to 6 refuses: what the layout is laid on
+pub record Laid (G : Geometry) (d : List ℕ) : Type 0 where
+  pub sound : Sound G
+  pub design : Design (G .v) (G .k) (tuplesOf G) d

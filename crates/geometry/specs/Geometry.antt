@@ -1,8 +1,9 @@
 -- 01, "Design and geometry": the limits and the derived numbers of a geometry. v groups, tuples of k groups, groups of g
 -- disks, units of u bytes. A division's result is meant only where it is whole, which is said by multiplication.
 -- Assumes nothing.
-use Prim.Native.Nat.{ℕ, _+_, _-_, _*_, _/_, _%_}
-use mathlib.Core.Bool.{Bool, not, _&&_, _||_}
+use Prim.Native.Nat.{ℕ, _+_, _-_, _*_, _/_, _%_, _≤_}
+use mathlib.Core.Path.{_≡_}
+use mathlib.Core.Bool.{Bool, true, not, _&&_, _||_}
 use lib.Dec.{ltb, leb, eqb}
 use Rattle.counting.specs.Counting.{anyBelow}
 use Rattle.geometry.specs.declared.Geometry.{Geometry}
@@ -62,3 +63,23 @@ setsOf G = bOf (G .v) (G .k) * tupleSetsOf G
 -- "v·g·r·g·u bytes"
 unfoldable pub bytesOf : Geometry → ℕ
 bytesOf G = G .v * G .g * rOf (G .v) (G .k) * G .g * G .u
+
+-- v and k within their limits
+pub record Limits (v k : ℕ) : Type 0 where
+  pub v-low : 2 ≤ v
+  pub v-high : v ≤ 91
+  pub k-low : 2 ≤ k
+  pub k-high : k ≤ 10
+  pub k-v : k ≤ v
+
+-- a geometry that 2, 3 and 6 do not refuse, with all that the layout needs of g: "no e with 2 ≤ e < k divides g" (02, Ask 5)
+pub record Sound (G : Geometry) : Type 0 where
+  pub limits : Limits (G .v) (G .k)
+  pub r-whole : rOf (G .v) (G .k) * (G .k - 1) ≡ G .v - 1
+  pub b-whole : bOf (G .v) (G .k) * (G .k * (G .k - 1)) ≡ G .v * (G .v - 1)
+  pub g-low : 2 ≤ G .g
+  pub g-high : G .g ≤ 13
+  pub k-g : G .k ≤ G .g
+  pub divisors : noDivisorBelow (G .k) (G .g) ≡ true
+  pub u-low : 1 ≤ G .u
+  pub u-high : G .u ≤ 4096

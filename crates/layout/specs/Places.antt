@@ -56,9 +56,9 @@ roleAt G d x y = roleOf G (cellAt G d x y)
 -- the four places of user unit n: data, outer parity, inner parity of the data, inner parity of the outer parity
 unfoldable pub fourOf : Geometry → List ℕ → ℕ → Four
 fourOf G d n =
-    record
-      { user = placeOf G d (userCell G n)
-      ; outer = placeOf G d (userOuter G n)
-      ; inner = placeOf G d (innerOf G (userCell G n))
-      ; both = placeOf G d (innerOf G (userOuter G n))
-      }
+    record {
+      user = placeOf G d (userCell G n);
+      outer = placeOf G d (userOuter G n);
+      inner = placeOf G d (innerOf G (userCell G n));
+      both = placeOf G d (innerOf G (userOuter G n));
+    }

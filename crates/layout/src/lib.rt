@@ -1,5 +1,8 @@
 // The layout of document 000: cells, labels, diagonals, places and roles.
-use geometry::{Disk, Tuple, Unit, UserUnit};
+use geometry::Disk;
+use geometry::Tuple;
+use geometry::Unit;
+use geometry::UserUnit;
 
 // One unit of one region of a tuple: the tuple, the region's position in it, and the unit's row and column there.
 pub struct Cell {

@@ -19,15 +19,15 @@ sizesRules G d =
 -- the derived numbers, by name
 unfoldable pub sizesOf : Geometry → Sizes
 sizesOf G =
-    record
-      { parts = partsOf G
-      ; tuples = tuplesOf G
-      ; disks = disksOf G
-      ; units = unitsOf G
-      ; users = userUnitsOf G
-      ; sets = setsOf G
-      ; bytes = bytesOf G
-      }
+    record {
+      parts = partsOf G;
+      tuples = tuplesOf G;
+      disks = disksOf G;
+      units = unitsOf G;
+      users = userUnitsOf G;
+      sets = setsOf G;
+      bytes = bytesOf G;
+    }
 
 -- 01's number, place and values for each answer
 abbrev pub sizedOutcome : Sized → Outcome Sizes
