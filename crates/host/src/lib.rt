@@ -1,1 +1,235 @@
-// What a host controller written in C calls.
+// What a host controller written in C calls: numbers and lent slices in, one flat struct of numbers out, so that no result
+// has a length that could be wrong. A refusal's number and place come first (0 and 0: accepted); a refused call's other
+// numbers are 0. include/himzolven.h declares each of these for C.
+ghost use mathlib.Core.Path.{_≡_};
+ghost use lib.ListN.{length};
+ghost use Rattle.refusal.specs.Refusal.{answer, verdict, kept, checkedOutcome};
+ghost use Rattle.design.specs.Rules.{designRules};
+ghost use Rattle.held.specs.Held.{fillRules, heldDesign};
+ghost use Rattle.sizes.specs.Sizes.{sizesRules, sizesOf, sizedOutcome};
+ghost use Rattle.address.specs.Address.{mapRules, roleRules, mappedOutcome, locatedOutcome};
+ghost use Rattle.layout.specs.Places.{fourOf, roleAt};
+ghost use Rattle.host.specs.Flat.{geometry, flatAnswer, flatSizes, flatMap, flatRole, flatRoleOf};
+use address::Located;
+use address::Mapped;
+use geometry::Disk;
+use geometry::Geometry;
+use geometry::Unit;
+use geometry::UserUnit;
+use layout::Role;
+use refusal::Checked;
+use sizes::Sized;
+
+#[repr(C)]
+pub struct Answer {
+    pub refusal: u32,
+    pub place: u32,
+}
+
+#[repr(C)]
+pub struct SizesAnswer {
+    pub refusal: u32,
+    pub place: u32,
+    pub parts: u32,
+    pub tuples: u32,
+    pub disks: u32,
+    pub units: u32,
+    pub user_units: u32,
+    pub sets: u32,
+    pub bytes: u64,
+}
+
+#[repr(C)]
+pub struct MapAnswer {
+    pub refusal: u32,
+    pub place: u32,
+    pub data_disk: u32,
+    pub data_unit: u32,
+    pub outer_disk: u32,
+    pub outer_unit: u32,
+    pub inner_disk: u32,
+    pub inner_unit: u32,
+    pub both_disk: u32,
+    pub both_unit: u32,
+}
+
+#[repr(C)]
+pub struct RoleAnswer {
+    pub refusal: u32,
+    pub place: u32,
+    pub kind: u32,
+    pub a: u32,
+    pub b: u32,
+    pub c: u32,
+}
+
+fn answer_of(x: Checked) -> Answer
+    ensures { λ r. ⌜ r ≡ flatAnswer (checkedOutcome x) ⌝ }
+{
+    match x {
+        Checked::Fine => Answer {
+            refusal: 0,
+            place: 0,
+        },
+        Checked::Refused(why) => Answer {
+            refusal: why.number,
+            place: why.place,
+        },
+    }
+}
+
+// Fills the list with the design of a held v: refusals 1 and 3.
+#[no_mangle]
+pub extern "C" fn himzolven_fill(v: u32, design: &mut [u16]) -> Answer
+    ensures { λ r. ⌜ (r ≡ flatAnswer (verdict (fillRules v (length (now (design .entry))))))
+        × (now (design .exit)
+        ≡ kept (verdict (fillRules v (length (now (design .entry))))) (heldDesign v) (now (design .entry))) ⌝ }
+{
+    answer_of(held::fill(v, design))
+}
+
+// Checks a design: refusals 2 to 5.
+#[no_mangle]
+pub extern "C" fn himzolven_check(v: u32, k: u32, design: &[u16]) -> Answer
+    ensures { λ r. ⌜ r ≡ flatAnswer (verdict (designRules v k (now (design .entry)))) ⌝ }
+{
+    answer_of(checking::check(v, k, design))
+}
+
+fn sizes_of(x: Sized) -> SizesAnswer
+    ensures { λ r. ⌜ r ≡ flatSizes (sizedOutcome x) ⌝ }
+{
+    match x {
+        Sized::Sizes(s) => SizesAnswer {
+            refusal: 0,
+            place: 0,
+            parts: s.parts,
+            tuples: s.tuples,
+            disks: s.disks,
+            units: s.units,
+            user_units: s.users,
+            sets: s.sets,
+            bytes: s.bytes,
+        },
+        Sized::Refused(why) => SizesAnswer {
+            refusal: why.number,
+            place: why.place,
+            parts: 0,
+            tuples: 0,
+            disks: 0,
+            units: 0,
+            user_units: 0,
+            sets: 0,
+            bytes: 0,
+        },
+    }
+}
+
+// The sizes of a design and geometry: refusals 2 to 6.
+#[no_mangle]
+pub extern "C" fn himzolven_sizes(v: u32, k: u32, g: u32, u: u32, design: &[u16]) -> SizesAnswer
+    ensures { λ r. ⌜ r
+        ≡ flatSizes (answer (sizesRules (geometry v k g u) (now (design .entry))) (sizesOf (geometry v k g u))) ⌝ }
+{
+    sizes_of(sizes::sizes(Geometry { v, k, g, u }, design))
+}
+
+fn map_of(x: Mapped) -> MapAnswer
+    ensures { λ r. ⌜ r ≡ flatMap (mappedOutcome x) ⌝ }
+{
+    match x {
+        Mapped::Places(f) => MapAnswer {
+            refusal: 0,
+            place: 0,
+            data_disk: f.user.disk.0,
+            data_unit: f.user.unit.0,
+            outer_disk: f.outer.disk.0,
+            outer_unit: f.outer.unit.0,
+            inner_disk: f.inner.disk.0,
+            inner_unit: f.inner.unit.0,
+            both_disk: f.both.disk.0,
+            both_unit: f.both.unit.0,
+        },
+        Mapped::Refused(why) => MapAnswer {
+            refusal: why.number,
+            place: why.place,
+            data_disk: 0,
+            data_unit: 0,
+            outer_disk: 0,
+            outer_unit: 0,
+            inner_disk: 0,
+            inner_unit: 0,
+            both_disk: 0,
+            both_unit: 0,
+        },
+    }
+}
+
+// The four places of a user unit: refusals 2 to 6 and 10.
+#[no_mangle]
+pub extern "C" fn himzolven_map(v: u32, k: u32, g: u32, u: u32, design: &[u16], user_unit: u32) -> MapAnswer
+    ensures { λ r. ⌜ r
+        ≡ flatMap
+        (answer (mapRules (geometry v k g u) (now (design .entry)) «user_unit»)
+        (fourOf (geometry v k g u) (now (design .entry)) «user_unit»)) ⌝ }
+{
+    map_of(address::map(Geometry { v, k, g, u }, design, UserUnit(user_unit)))
+}
+
+fn role_of(x: Role) -> RoleAnswer
+    ensures { λ r. ⌜ r ≡ flatRoleOf x ⌝ }
+{
+    match x {
+        Role::User(n) => RoleAnswer {
+            refusal: 0,
+            place: 0,
+            kind: 0,
+            a: n.0,
+            b: 0,
+            c: 0,
+        },
+        Role::Outer(t, i, c) => RoleAnswer {
+            refusal: 0,
+            place: 0,
+            kind: 1,
+            a: t.0,
+            b: i,
+            c,
+        },
+        Role::Inner(t, l, j) => RoleAnswer {
+            refusal: 0,
+            place: 0,
+            kind: 2,
+            a: t.0,
+            b: l,
+            c: j,
+        },
+    }
+}
+
+fn located_of(x: Located) -> RoleAnswer
+    ensures { λ r. ⌜ r ≡ flatRole (locatedOutcome x) ⌝ }
+{
+    match x {
+        Located::Has(role) => role_of(role),
+        Located::Refused(why) => RoleAnswer {
+            refusal: why.number,
+            place: why.place,
+            kind: 0,
+            a: 0,
+            b: 0,
+            c: 0,
+        },
+    }
+}
+
+// The role of a disk's unit: refusals 2 to 6 and 9.
+#[no_mangle]
+pub extern "C" fn himzolven_role(v: u32, k: u32, g: u32, u: u32, design: &[u16], disk: u32, unit: u32) -> RoleAnswer
+    ensures { λ r. ⌜ r
+        ≡ flatRole
+        (answer (roleRules (geometry v k g u) (now (design .entry)) disk unit)
+        (roleAt (geometry v k g u) (now (design .entry)) disk unit)) ⌝ }
+{
+    located_of(address::role(Geometry { v, k, g, u }, design, Disk(disk), Unit(unit)))
+}

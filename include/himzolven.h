@@ -1,0 +1,116 @@
+/* Himzolven: the OI-RAID layout (RAID5 across groups of disks and RAID5 inside each group), proved to the byte.
+ *
+ * Link with target/staticlib/libhost.a. Every function here is proved to answer as docs/REVIEW.md states it, for every input.
+ *
+ * A design is a list of 16-bit group numbers, row after row, of b*k numbers. v groups, k groups in a row (a "tuple"),
+ * g disks in a group, u bytes in a unit. Disk d is in group d/g, column d%g. Unit = part*g + row.
+ *
+ * Answers. Each function returns a struct by value, so no result has a length that could be wrong. `refusal` is 0 where the
+ * call is accepted and else one of the numbers below, with its `place`; every other field of a refused answer is 0. A refused
+ * call changes no lent byte. Refusals are tested in the order of their numbers, those that apply to the call.
+ *
+ * Numbers. Any number is allowed for every parameter: it is tested before it is used. Pass no wider type than the parameter's:
+ * C would cut it silently (-Wconversion finds that).
+ *
+ * Lists. `design` points to `length` numbers. NULL is allowed where `length` is 0. Elsewhere the list must be readable (for
+ * himzolven_fill also writable), aligned for uint16_t, and `length` its true length: no function can check that. No list is kept
+ * after the call returns.
+ *
+ * Aliasing. himzolven_fill is lent its list alone: no other thread may read or write it during the call. The other functions
+ * only read their list; any number of calls may share one.
+ *
+ * Threads. No function has state of its own: each may be called from any thread, from signal handlers and recursively, as
+ * long as the lists obey the rule above. No function allocates, blocks, prints or fails to return.
+ */
+#ifndef HIMZOLVEN_H
+#define HIMZOLVEN_H
+
+#include <stddef.h>
+#include <stdint.h>
+
+#ifdef __cplusplus
+extern "C" {
+#endif
+
+/* The refusals that the functions below can give. Place 0 where none is named. */
+enum himzolven_refusal {
+    HIMZOLVEN_ACCEPTED = 0,
+    HIMZOLVEN_NOT_HELD = 1,       /* no set held for v */
+    HIMZOLVEN_BEYOND_LIMITS = 2,  /* v not in 2..91, k not in 2..10, or k above v */
+    HIMZOLVEN_NOT_WHOLE = 3,      /* r or b not whole, or the list's length is not b*k */
+    HIMZOLVEN_BAD_ROW = 4,        /* a group number of v or more, or a row not ascending; place: first such row */
+    HIMZOLVEN_BAD_PAIR = 5,       /* a pair a<b not in exactly one row; place: a*v+b, lowest a then b */
+    HIMZOLVEN_BAD_SIZE = 6,       /* g not a prime from 2 to 13 or below k, or u not in 1..4096 */
+    HIMZOLVEN_DISK_TOO_HIGH = 9,  /* disk or unit number too high */
+    HIMZOLVEN_USER_TOO_HIGH = 10  /* user unit number too high */
+};
+
+/* The roles of a unit. */
+enum himzolven_kind {
+    HIMZOLVEN_USER = 0,  /* user unit a */
+    HIMZOLVEN_OUTER = 1, /* outer parity of label (b, c) of tuple a */
+    HIMZOLVEN_INNER = 2  /* inner parity of diagonal c of the region at position b of tuple a */
+};
+
+typedef struct {
+    uint32_t refusal;
+    uint32_t place;
+} himzolven_answer;
+
+/* parts: of a disk (r); tuples: b; disks: v*g; units: of one disk (r*g); bytes: of the whole array. */
+typedef struct {
+    uint32_t refusal;
+    uint32_t place;
+    uint32_t parts;
+    uint32_t tuples;
+    uint32_t disks;
+    uint32_t units;
+    uint32_t user_units;
+    uint32_t sets;
+    uint64_t bytes;
+} himzolven_sizes_answer;
+
+/* data: the user unit; outer: its outer parity; inner: the inner parity of the data; both: that of the outer parity. */
+typedef struct {
+    uint32_t refusal;
+    uint32_t place;
+    uint32_t data_disk;
+    uint32_t data_unit;
+    uint32_t outer_disk;
+    uint32_t outer_unit;
+    uint32_t inner_disk;
+    uint32_t inner_unit;
+    uint32_t both_disk;
+    uint32_t both_unit;
+} himzolven_map_answer;
+
+/* kind: enum himzolven_kind, with the numbers named there; those not named are 0. */
+typedef struct {
+    uint32_t refusal;
+    uint32_t place;
+    uint32_t kind;
+    uint32_t a;
+    uint32_t b;
+    uint32_t c;
+} himzolven_role_answer;
+
+/* Fills the list with the design of a held v (7, 13, 21, 31, 57, 73, 91). Refusals 1, 3. */
+himzolven_answer himzolven_fill(uint32_t v, uint16_t *design, size_t length);
+
+/* Checks that the list is a design of v groups in rows of k. Refusals 2, 3, 4, 5. */
+himzolven_answer himzolven_check(uint32_t v, uint32_t k, const uint16_t *design, size_t length);
+
+/* The sizes that follow from a design and a geometry. Refusals 2, 3, 4, 5, 6. */
+himzolven_sizes_answer himzolven_sizes(uint32_t v, uint32_t k, uint32_t g, uint32_t u, const uint16_t *design, size_t length);
+
+/* The four places of a user unit. Refusals 2, 3, 4, 5, 6, 10. */
+himzolven_map_answer himzolven_map(uint32_t v, uint32_t k, uint32_t g, uint32_t u, const uint16_t *design, size_t length, uint32_t user_unit);
+
+/* The role of a disk's unit. Refusals 2, 3, 4, 5, 6, 9. */
+himzolven_role_answer himzolven_role(uint32_t v, uint32_t k, uint32_t g, uint32_t u, const uint16_t *design, size_t length, uint32_t disk, uint32_t unit);
+
+#ifdef __cplusplus
+}
+#endif
+
+#endif
