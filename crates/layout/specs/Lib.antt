@@ -2,3 +2,4 @@ pub mod Cells
 pub mod Sets
 pub mod Roles
 pub mod Places
+pub mod Ranges

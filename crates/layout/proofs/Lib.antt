@@ -1,0 +1,4 @@
+pub mod Turns
+pub mod Positions
+pub mod Numbering
+pub mod Roles
