@@ -22,58 +22,58 @@ flatAnswer (refused n p) = record { refusal = n; place = p }
 
 abbrev pub flatSizes : Outcome Sizes → SizesAnswer
 flatSizes (accepted x) =
-    record
-      { refusal = 0
-      ; place = 0
-      ; parts = x .parts
-      ; tuples = x .tuples
-      ; disks = x .disks
-      ; units = x .units
-      ; «user_units» = x .users
-      ; sets = x .sets
-      ; bytes = x .bytes
-      }
+    record {
+      refusal = 0;
+      place = 0;
+      parts = x .parts;
+      tuples = x .tuples;
+      disks = x .disks;
+      units = x .units;
+      «user_units» = x .users;
+      sets = x .sets;
+      bytes = x .bytes;
+    }
 flatSizes (refused n p) =
-    record
-      { refusal = n
-      ; place = p
-      ; parts = 0
-      ; tuples = 0
-      ; disks = 0
-      ; units = 0
-      ; «user_units» = 0
-      ; sets = 0
-      ; bytes = 0
-      }
+    record {
+      refusal = n;
+      place = p;
+      parts = 0;
+      tuples = 0;
+      disks = 0;
+      units = 0;
+      «user_units» = 0;
+      sets = 0;
+      bytes = 0;
+    }
 
 -- "data, outer parity, inner of data, inner of outer", each disk/unit
 abbrev pub flatMap : Outcome Four → MapAnswer
 flatMap (accepted x) =
-    record
-      { refusal = 0
-      ; place = 0
-      ; «data_disk» = x .user .disk .0
-      ; «data_unit» = x .user .unit .0
-      ; «outer_disk» = x .outer .disk .0
-      ; «outer_unit» = x .outer .unit .0
-      ; «inner_disk» = x .inner .disk .0
-      ; «inner_unit» = x .inner .unit .0
-      ; «both_disk» = x .both .disk .0
-      ; «both_unit» = x .both .unit .0
-      }
+    record {
+      refusal = 0;
+      place = 0;
+      «data_disk» = x .user .disk .0;
+      «data_unit» = x .user .unit .0;
+      «outer_disk» = x .outer .disk .0;
+      «outer_unit» = x .outer .unit .0;
+      «inner_disk» = x .inner .disk .0;
+      «inner_unit» = x .inner .unit .0;
+      «both_disk» = x .both .disk .0;
+      «both_unit» = x .both .unit .0;
+    }
 flatMap (refused n p) =
-    record
-      { refusal = n
-      ; place = p
-      ; «data_disk» = 0
-      ; «data_unit» = 0
-      ; «outer_disk» = 0
-      ; «outer_unit» = 0
-      ; «inner_disk» = 0
-      ; «inner_unit» = 0
-      ; «both_disk» = 0
-      ; «both_unit» = 0
-      }
+    record {
+      refusal = n;
+      place = p;
+      «data_disk» = 0;
+      «data_unit» = 0;
+      «outer_disk» = 0;
+      «outer_unit» = 0;
+      «inner_disk» = 0;
+      «inner_unit» = 0;
+      «both_disk» = 0;
+      «both_unit» = 0;
+    }
 
 -- "user unit n; outer parity of (t,i,c); or inner parity of (t,l,j)": kind 0, 1 or 2 and the numbers
 abbrev pub flatRoleOf : Role → RoleAnswer

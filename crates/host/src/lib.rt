@@ -167,7 +167,14 @@ fn map_of(x: Mapped) -> MapAnswer
 
 // The four places of a user unit: refusals 2 to 6 and 10.
 #[no_mangle]
-pub extern "C" fn himzolven_map(v: u32, k: u32, g: u32, u: u32, design: &[u16], user_unit: u32) -> MapAnswer
+pub extern "C" fn himzolven_map(
+    v: u32,
+    k: u32,
+    g: u32,
+    u: u32,
+    design: &[u16],
+    user_unit: u32,
+) -> MapAnswer
     ensures { λ r. ⌜ r
         ≡ flatMap
         (answer (mapRules (geometry v k g u) (now (design .entry)) «user_unit»)
@@ -225,7 +232,15 @@ fn located_of(x: Located) -> RoleAnswer
 
 // The role of a disk's unit: refusals 2 to 6 and 9.
 #[no_mangle]
-pub extern "C" fn himzolven_role(v: u32, k: u32, g: u32, u: u32, design: &[u16], disk: u32, unit: u32) -> RoleAnswer
+pub extern "C" fn himzolven_role(
+    v: u32,
+    k: u32,
+    g: u32,
+    u: u32,
+    design: &[u16],
+    disk: u32,
+    unit: u32,
+) -> RoleAnswer
     ensures { λ r. ⌜ r
         ≡ flatRole
         (answer (roleRules (geometry v k g u) (now (design .entry)) disk unit)

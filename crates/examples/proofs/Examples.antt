@@ -1,0 +1,30 @@
+-- The table holds: antt computes each answer. Assumes nothing.
+use Prim.Native.Nat.{ℕ}
+use mathlib.Core.Path.{refl}
+use mathlib.Core.List.{List}
+use Rattle.counting.specs.Counting.{countBelow, lowest}
+use Rattle.geometry.specs.Geometry.{beyondLimits, rOf, bOf, whole, noDivisorBelow, sizesAllowed, disksOf, partsOf, unitsOf, tuplesOf, userUnitsOf, tupleSetsOf, setsOf, bytesOf}
+use Rattle.design.specs.Design.{groupAt, names}
+use Rattle.design.specs.Rules.{rowBad, rowsWith, pairBad, designRules}
+use Rattle.sizes.specs.Sizes.{sizesRules, sizesOf}
+use Rattle.layout.specs.Cells.{labelColumn, diagonalAt, parityPosition, dataPosition}
+use Rattle.layout.specs.Roles.{userColumn, userRow, userRegion, userTuple, userCell, userOuter, innerOf}
+use Rattle.layout.specs.Places.{groupOf, partOf, placeOf, fourOf}
+use Rattle.address.specs.Address.{mapRules}
+use Rattle.examples.specs.Examples.{Examples}
+
+pub examples : Examples
+unfolding countBelow lowest beyondLimits rOf bOf whole noDivisorBelow sizesAllowed disksOf partsOf unitsOf tuplesOf userUnitsOf tupleSetsOf setsOf bytesOf groupAt names rowBad rowsWith pairBad designRules sizesRules sizesOf labelColumn diagonalAt parityPosition dataPosition userColumn userRow userRegion userTuple userCell userOuter innerOf groupOf partOf placeOf fourOf mapRules
+examples =
+    record {
+      sizes-of-F = refl;
+      example-1 = refl;
+      example-2 = refl;
+      example-3 = refl;
+      example-4 = refl;
+      example-5 = refl;
+      example-9 = refl;
+      example-10 = λ (d : List ℕ). refl;
+      example-11 = refl;
+      example-12 = refl;
+    }
