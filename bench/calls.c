@@ -1,0 +1,94 @@
+/* One call, proved or plain, many times: run under callgrind to count instructions, or alone to measure stack.
+ * usage: calls proved|plain check|map|role V K G COUNT   or   calls stack V K G */
+#define _GNU_SOURCE
+#include <inttypes.h>
+#include <stdio.h>
+#include <stdlib.h>
+#include <string.h>
+#include <ucontext.h>
+
+#include "plain.h"
+
+enum { ROOM = 65536, PAINT = 0xA5 };
+
+static uint16_t design[8192];
+static size_t length;
+static uint32_t v, k, g;
+
+/* a held design, or the complete graph for k = 2 */
+static void make(void) {
+    if (k == 2) {
+        for (uint32_t a = 0; a < v; a++)
+            for (uint32_t c = a + 1; c < v; c++) {
+                design[length++] = (uint16_t)a;
+                design[length++] = (uint16_t)c;
+            }
+        return;
+    }
+    length = (size_t)v * k;
+    himzolven_answer a = himzolven_fill(v, design, length);
+    if (a.refusal != 0) {
+        fprintf(stderr, "no set held for %" PRIu32 "\n", v);
+        exit(2);
+    }
+}
+
+static uint64_t sum;
+
+static void once(int proved, const char *call, uint32_t i) {
+    uint32_t users = (uint32_t)(length / k) * (k - 1) * (g - 1) * g;
+    uint32_t disks = v * g, units = (v - 1) / (k - 1) * g;
+    if (strcmp(call, "check") == 0) {
+        himzolven_answer a = proved ? himzolven_check(v, k, design, length) : plain_check(v, k, design, length);
+        sum += a.refusal;
+    } else if (strcmp(call, "map") == 0) {
+        uint32_t n = i * 7919 % users;
+        himzolven_map_answer a = proved ? himzolven_map(v, k, g, 512, design, length, n) : plain_map(v, k, g, 512, design, length, n);
+        sum += a.data_disk + a.both_unit;
+    } else {
+        uint32_t d = i * 7919 % disks, e = i * 104729 % units;
+        himzolven_role_answer a = proved ? himzolven_role(v, k, g, 512, design, length, d, e) : plain_role(v, k, g, 512, design, length, d, e);
+        sum += a.kind + a.a;
+    }
+}
+
+static ucontext_t home, away;
+static const char *stacked;
+
+static void on_stack(void) {
+    once(1, stacked, 1);
+}
+
+/* how much of a painted stack one call touches */
+static size_t touched(const char *call) {
+    static unsigned char room[ROOM];
+    memset(room, PAINT, sizeof room);
+    getcontext(&away);
+    away.uc_stack.ss_sp = room;
+    away.uc_stack.ss_size = sizeof room;
+    away.uc_link = &home;
+    stacked = call;
+    makecontext(&away, on_stack, 0);
+    swapcontext(&home, &away);
+    size_t clean = 0;
+    while (clean < sizeof room && room[clean] == PAINT) clean++;
+    return sizeof room - clean;
+}
+
+int main(int argc, char **argv) {
+    if (argc == 5 && strcmp(argv[1], "stack") == 0) {
+        v = (uint32_t)atoi(argv[2]), k = (uint32_t)atoi(argv[3]), g = (uint32_t)atoi(argv[4]);
+        make();
+        printf("%zu %zu %zu\n", touched("check"), touched("map"), touched("role"));
+        return 0;
+    }
+    if (argc != 7) {
+        fprintf(stderr, "usage: calls proved|plain check|map|role V K G COUNT, or calls stack V K G\n");
+        return 2;
+    }
+    v = (uint32_t)atoi(argv[3]), k = (uint32_t)atoi(argv[4]), g = (uint32_t)atoi(argv[5]);
+    make();
+    for (uint32_t i = 0; i < (uint32_t)atoi(argv[6]); i++) once(argv[1][1] == 'r', argv[2], i);
+    printf("%" PRIu64 "\n", sum);
+    return 0;
+}

@@ -1,0 +1,108 @@
+#include "plain.h"
+
+#include <string.h>
+
+static himzolven_answer answer(uint32_t refusal, uint32_t place) {
+    himzolven_answer a = {refusal, place};
+    return a;
+}
+
+himzolven_answer plain_check(uint32_t v, uint32_t k, const uint16_t *design, size_t length) {
+    if (v < 2 || v > 91 || k < 2 || k > 10 || k > v) return answer(2, 0);
+    if ((v - 1) % (k - 1) != 0 || v * (v - 1) % (k * (k - 1)) != 0) return answer(3, 0);
+    uint32_t b = v * (v - 1) / (k * (k - 1));
+    if (length != (size_t)b * k) return answer(3, 0);
+    for (uint32_t t = 0; t < b; t++)
+        for (uint32_t l = 0; l < k; l++) {
+            uint32_t a = design[t * k + l];
+            if (a >= v || (l > 0 && a <= design[t * k + l - 1])) return answer(4, t);
+        }
+    uint8_t table[91 * 91];
+    memset(table, 0, sizeof table);
+    for (uint32_t t = 0; t < b; t++)
+        for (uint32_t l = 0; l < k; l++)
+            for (uint32_t m = l + 1; m < k; m++) {
+                uint8_t *seen = &table[design[t * k + l] * v + design[t * k + m]];
+                if (*seen < 2) *seen = (uint8_t)(*seen + 1);
+            }
+    for (uint32_t a = 0; a < v; a++)
+        for (uint32_t c = a + 1; c < v; c++)
+            if (table[a * v + c] != 1) return answer(5, a * v + c);
+    return answer(0, 0);
+}
+
+static int prime(uint32_t g) {
+    for (uint32_t e = 2; e < g; e++)
+        if (g % e == 0) return 0;
+    return 1;
+}
+
+static himzolven_answer plain_sizes_check(uint32_t v, uint32_t k, uint32_t g, uint32_t u, const uint16_t *design, size_t length) {
+    himzolven_answer a = plain_check(v, k, design, length);
+    if (a.refusal != 0) return a;
+    if (g < 2 || g > 13 || !prime(g) || g < k || u < 1 || u > 4096) return answer(6, 0);
+    return a;
+}
+
+static uint32_t part_of(const uint16_t *design, size_t end, uint16_t group) {
+    uint16_t n = 0;
+    for (size_t e = 0; e < end; e++) n = (uint16_t)(n + (design[e] == group));
+    return n;
+}
+
+himzolven_map_answer plain_map(uint32_t v, uint32_t k, uint32_t g, uint32_t u, const uint16_t *design, size_t length, uint32_t n) {
+    himzolven_map_answer r;
+    memset(&r, 0, sizeof r);
+    himzolven_answer a = plain_sizes_check(v, k, g, u, design, length);
+    uint32_t b = a.refusal == 0 ? v * (v - 1) / (k * (k - 1)) : 0;
+    if (a.refusal == 0 && n >= b * (k - 1) * (g - 1) * g) a = answer(10, 0);
+    r.refusal = a.refusal;
+    r.place = a.place;
+    if (a.refusal != 0) return r;
+    uint32_t c = n % g, i = n / g % (g - 1), l = n / g / (g - 1) % (k - 1), t = n / g / (g - 1) / (k - 1), w = k - 1;
+    uint32_t x = (c + i * l) % g, y = (c + i * w) % g;
+    uint32_t jx = (i + g - x) % g, jy = (i + g - y) % g;
+    uint16_t data = design[t * k + l], parity = design[t * k + w];
+    uint32_t p = part_of(design, (size_t)t * k, data), q = part_of(design, (size_t)t * k, parity);
+    r.data_disk = data * g + x;
+    r.data_unit = p * g + i;
+    r.outer_disk = parity * g + y;
+    r.outer_unit = q * g + i;
+    r.inner_disk = data * g + (g - 1 - jx);
+    r.inner_unit = p * g + (g - 1);
+    r.both_disk = parity * g + (g - 1 - jy);
+    r.both_unit = q * g + (g - 1);
+    return r;
+}
+
+himzolven_role_answer plain_role(uint32_t v, uint32_t k, uint32_t g, uint32_t u, const uint16_t *design, size_t length, uint32_t disk, uint32_t unit) {
+    himzolven_role_answer r;
+    memset(&r, 0, sizeof r);
+    himzolven_answer a = plain_sizes_check(v, k, g, u, design, length);
+    if (a.refusal == 0 && (disk >= v * g || unit >= (v - 1) / (k - 1) * g)) a = answer(9, 0);
+    r.refusal = a.refusal;
+    r.place = a.place;
+    if (a.refusal != 0) return r;
+    uint32_t group = disk / g, x = disk % g, p = unit / g, i = unit % g, seen = 0;
+    size_t e = 0;
+    for (;; e++)
+        if (design[e] == group && seen++ == p) break;
+    uint32_t t = (uint32_t)(e / k), l = (uint32_t)(e % k);
+    if (i == g - 1) {
+        r.kind = 2;
+        r.a = t;
+        r.b = l;
+        r.c = (i + g - x) % g;
+        return r;
+    }
+    uint32_t c = (x + i * (g - l)) % g;
+    if (l == k - 1) {
+        r.kind = 1;
+        r.a = t;
+        r.b = i;
+        r.c = c;
+    } else {
+        r.a = ((t * (k - 1) + l) * (g - 1) + i) * g + c;
+    }
+    return r;
+}
