@@ -4,31 +4,17 @@ use Prim.Native.Nat.{ℕ, zero, suc, _+_, _*_, _/_, _%_, _<_, _≤_}
 use mathlib.Core.Path.{_≡_, sym, ap, _∙_}
 use mathlib.Core.Bool.{Bool, true}
 use mathlib.Core.List.{List}
-use mathlib.Core.Logic.{⊎-elim}
 use lib.Dec.{eqb}
 use lib.ListN.{getD}
 use lib.Arith.{digits-lt, digits-div, digits-mod}
 use native.Mathlib.Nat.{suc-mul, zero-mul, le-refl, le-trans}
-use native.Mathlib.Numerals.{add-one}
 use native.Mathlib.Omega.{arith}
-use borrow.Author.Tests.{eq-eqb, eqb-true}
+use borrow.Author.Tests.{eq-eqb}
 use Rattle.counting.specs.Counting.{countBelow, nthBelow}
-use Rattle.counting.proofs.Bools.{bool-either}
-use Rattle.counting.proofs.Laws.{
-  lowest-before,
-  count-zero,
-  count-more,
-  count-same-more,
-  count-none,
-  count-one,
-  count-add,
-  nth-lt,
-  nth-holds,
-  nth-count,
-  count-nth,
-}
-use Rattle.design.specs.Design.{groupAt, names, InRow, Design}
-use Rattle.design.proofs.Rows.{holds, position, names-in, not-named, position-lt, position-holds, row-once}
+use Rattle.counting.proofs.Laws.{lowest-before, count-zero, count-none, count-add, nth-lt, nth-holds, nth-count, count-nth}
+use Rattle.counting.proofs.Sums.{count-next}
+use Rattle.design.specs.Design.{groupAt, names, Design}
+use Rattle.design.proofs.Rows.{holds, position, position-lt, position-holds, row-count}
 
 -- the test that entry e of the list is group a
 abbrev pub isEntry : List ℕ → ℕ → ℕ → Bool
@@ -50,22 +36,18 @@ unfolding groupAt
 entries-in-row k d a t l = count-add (isEntry d a) (t * k) l
 
 module _ (v k b : ℕ) (d : List ℕ) (D : Design v k b d) (a : ℕ) where
-  -- a row that names the group holds it once
-  pub named-once : (t : ℕ) → t < b → names k d a t ≡ true → countBelow (holds k d a t) k ≡ 1
-  named-once t ht h =
-      let w : InRow k d a t = names-in k d a t h in
-      count-one (holds k d a t) k (w .0) (w .1) (eq-eqb (groupAt k d t (w .0)) a (w .2))
-      (λ i q y. row-once v k b d D t ht i (w .0) q (w .1) (eqb-true (groupAt k d t i) a y ∙ sym (w .2)))
-
   -- the entries of the rows before t that are group a: as many as those rows that name it
   pub entries-count : (t : ℕ) → t ≤ b → countBelow (isEntry d a) (t * k) ≡ countBelow (names k d a) t
   entries-count zero h = rw zero-mul (count-zero (isEntry d a) ∙ sym (count-zero (names k d a)))
   entries-count (suc t) h =
-      rw (suc-mul, entries-in-row, entries-count t (omega arith), ← add-one)
-      (⊎-elim
-      (λ y. omega (arith, named-once t h y, count-more (names k d a) t y))
-      (λ y. omega (arith, count-none (holds k d a t) k (not-named k d a t y), count-same-more (names k d a) t y))
-      (bool-either (names k d a t)))
+      rw suc-mul
+      (omega (
+        arith,
+        entries-in-row k d a t k,
+        entries-count t (omega arith),
+        row-count v k b d D t h a,
+        count-next (names k d a) t,
+      ))
 
   -- and so up to the group's own entry in row t: what a scan has counted there is the number of the group's part
   pub entries-before :

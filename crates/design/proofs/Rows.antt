@@ -1,15 +1,30 @@
 -- The rows of a design, in words and by tests: which groups a row names, and that it names each once. Assumes nothing.
-use Prim.Native.Nat.{ℕ, zero, suc, _<_}
-use mathlib.Core.Path.{_≡_, sym, _∙_}
-use mathlib.Core.Bool.{Bool, true, false}
+use Prim.Native.Nat.{ℕ, zero, suc, _+_, _-_, _*_, _<_, _≤_}
+use mathlib.Core.Path.{_≡_, refl, sym, ap, _∙_}
+use mathlib.Core.Bool.{Bool, true, false, _&&_}
 use mathlib.Core.List.{List}
 use lib.Dec.{eqb}
+use native.Mathlib.Nat.{mul-one, mul-sub, eq-of-mul-eq-mul-right}
 use native.Mathlib.Numerals.{add-one}
 use native.Mathlib.Omega.{arith}
 use native.Mathlib.Decide.{decLt}
 use borrow.Author.Tests.{eq-eqb, eqb-true, ne-eqb, ltb-true}
-use Rattle.counting.specs.Counting.{lowest}
-use Rattle.counting.proofs.Laws.{any-true, any-witness, any-none, lowest-is, lowest-holds}
+use Rattle.counting.specs.Counting.{lowest, countBelow}
+use Rattle.counting.proofs.Bools.{and-both, both-and}
+use Rattle.counting.proofs.Laws.{any-true, any-witness, any-none, lowest-is, lowest-holds, count-same, count-one}
+use Rattle.counting.proofs.Sums.{
+  sumBelow,
+  oneIf,
+  sum-same,
+  sum-scaled,
+  sum-but-one,
+  count-as-sum,
+  count-where,
+  count-exchange,
+  count-once,
+  count-among,
+}
+use Rattle.geometry.specs.Geometry.{rOf}
 use Rattle.design.specs.Design.{groupAt, names, InRow, OneRow, Design}
 
 -- the test that position l of row t holds group a
@@ -19,6 +34,14 @@ holds k d a t l = eqb (groupAt k d t l) a
 -- the lowest position of row t that holds group a
 abbrev pub position : ℕ → List ℕ → ℕ → ℕ → ℕ
 position k d a t = lowest (holds k d a t) k
+
+-- the test that groups a and c stand together in row t
+abbrev pub together : ℕ → List ℕ → ℕ → ℕ → ℕ → Bool
+together k d a c t = names k d a t && names k d c t
+
+and-self : (x : Bool) → (x && x) ≡ x
+and-self true = refl
+and-self false = refl
 
 module _ (k : ℕ) (d : List ℕ) (a t : ℕ) where
   pub names-in : names k d a t ≡ true → InRow k d a t
@@ -74,6 +97,19 @@ module _ (v k b : ℕ) (d : List ℕ) (D : Design v k b d) (t : ℕ) (ht : t < b
       lowest-is (holds k d a t) k l hl (eq-eqb (groupAt k d t l) a e)
       (λ i q. ne-eqb (groupAt k d t i) a (λ y. let z : i ≡ l = row-once i l (omega arith) hl (y ∙ sym e) in omega arith))
 
+  -- how often a row holds a group: once if it names it, else never
+  pub row-count : (a : ℕ) → countBelow (holds k d a t) k ≡ oneIf (names k d a t)
+  unfolding names
+  row-count a =
+      count-once (holds k d a t) k
+      (λ i j p q x y.
+      row-once i j p q (eqb-true (groupAt k d t i) a x ∙ sym (eqb-true (groupAt k d t j) a y)))
+
+  -- a row names k groups
+  pub row-size : countBelow (λ (c : ℕ). names k d c t) v ≡ k
+  unfolding names
+  row-size = count-among (groupAt k d t) k v (λ l q. D .groups t l ht q) row-once
+
 -- each two groups stand together in exactly one row, whichever is named first
 pub pair-once : (v k b : ℕ) (d : List ℕ) → Design v k b d → (a c : ℕ) → a < v → c < v → (a ≡ c → ⊥) → OneRow k b d a c
 pair-once v k b d D a c ha hc ne = cases (decLt a c)
@@ -89,3 +125,50 @@ pair-once v k b d D a c ha hc ne = cases (decLt a c)
           right = o .left;
           only = λ s q x y. o .only s q y x;
         }
+
+-- "exactly one row" by counting
+pub one-row-count : (k b : ℕ) (d : List ℕ) (a c : ℕ) → OneRow k b d a c → countBelow (together k d a c) b ≡ 1
+one-row-count k b d a c o =
+    count-one (together k d a c) b (o .tuple) (o .below)
+    (both-and (names k d a (o .tuple)) (names k d c (o .tuple)) (in-names k d a (o .tuple) (o .left))
+    (in-names k d c (o .tuple) (o .right)))
+    (λ s q e.
+    let both = and-both (names k d a s) (names k d c s) e in
+    o .only s q (names-in k d a s (both .0)) (names-in k d c s (both .1)))
+
+-- "So r = (v-1)/(k-1)": the members of the rows that name a group are that group, once a row, and each other group, once
+module _ (v k b : ℕ) (d : List ℕ) (D : Design v k b d) (a : ℕ) (ha : a < v) where
+  -- row by row: k members of each that names a
+  by-rows :
+      sumBelow (λ (t : ℕ). countBelow (λ (c : ℕ). together k d a c t) v) b ≡ countBelow (names k d a) b * k
+  by-rows =
+      sum-same (λ (t : ℕ). countBelow (λ (c : ℕ). together k d a c t) v) (λ (t : ℕ). oneIf (names k d a t) * k) b
+      (λ t q.
+      count-where (names k d a t) (λ (c : ℕ). names k d c t) v
+      ∙ ap (λ (x : ℕ). oneIf (names k d a t) * x) (row-size v k b d D t q))
+      ∙ sum-scaled (λ (t : ℕ). oneIf (names k d a t)) k b
+      ∙ ap (λ (x : ℕ). x * k) (sym (count-as-sum (names k d a) b))
+
+  -- group by group: a in all its rows, and each other in one
+  by-groups : sumBelow (λ (c : ℕ). countBelow (together k d a c) b) v + 1 ≡ countBelow (names k d a) b + v
+  by-groups =
+      omega (
+        arith,
+        count-same (together k d a a) (names k d a) b (λ t q. and-self (names k d a t)),
+        mul-one v,
+        sum-but-one (λ (c : ℕ). countBelow (together k d a c) b) v a 1 ha
+            (λ c q ne. one-row-count k b d a c (pair-once v k b d D a c ha q (λ e. ne (sym e)))),
+      )
+
+  pub rows-of-group : countBelow (names k d a) b * k + 1 ≡ countBelow (names k d a) b + v
+  rows-of-group =
+      ap (λ (x : ℕ). x + 1) (sym by-rows ∙ count-exchange (λ (t c : ℕ). together k d a c t) b v) ∙ by-groups
+
+-- a design gives every group exactly r rows
+pub each-group-in-r-rows :
+    (v k b : ℕ) (d : List ℕ) → 2 ≤ k → Design v k b d → rOf v k * (k - 1) ≡ v - 1 → (a : ℕ) → a < v →
+    countBelow (names k d a) b ≡ rOf v k
+each-group-in-r-rows v k b d hk D whole a ha =
+    let rows : ℕ = countBelow (names k d a) b in
+    eq-of-mul-eq-mul-right (k - 1) (omega arith) rows (rOf v k)
+    (omega (arith, rows-of-group v k b d D a ha, mul-sub rows k 1, mul-one rows, whole))
