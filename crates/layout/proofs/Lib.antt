@@ -2,3 +2,5 @@ pub mod Turns
 pub mod Positions
 pub mod Numbering
 pub mod Roles
+pub mod Sets
+pub mod SetNumbers

@@ -1,6 +1,6 @@
 -- The user numbering and its digits are inverse: 01, "n = ((t·(k-1) + l)·(g-1) + i)·g + c ... There are b·(k-1)·(g-1)·g".
 use Prim.Native.Nat.{ℕ, _+_, _-_, _*_, _/_, _%_, _<_, _≤_}
-use mathlib.Core.Path.{_≡_, _∙_, ap}
+use mathlib.Core.Path.{_≡_, _∙_, ap, sym}
 use native.Mathlib.Nat.{mod-lt, div-add-mod', div-lt-iff-lt-mul}
 use native.Mathlib.Omega.{arith}
 use lib.Arith.{digits-lt, digits-div, digits-mod}
@@ -8,6 +8,11 @@ use Rattle.geometry.specs.declared.Geometry.{Geometry}
 use Rattle.geometry.specs.Geometry.{Sound, tuplesOf, userUnitsOf}
 use Rattle.layout.specs.Ranges.{UserIn, OuterIn}
 use Rattle.layout.specs.Roles.{userNumber, userColumn, userRow, userRegion, userTuple}
+
+-- a number has one quotient and one rest
+pub digits-only : (m q r p o : ℕ) → r < m → o < m → q * m + r ≡ p * m + o → (q ≡ p) × (r ≡ o)
+digits-only m q r p o h l e =
+    (sym (digits-div q h) ∙ ap (λ (x : ℕ). x / m) e ∙ digits-div p l, sym (digits-mod q h) ∙ ap (λ (x : ℕ). x % m) e ∙ digits-mod p l)
 
 module _ (G : Geometry) (t m i c : ℕ) (h : UserIn G t m i c) where
   pub number-lt : userNumber G t m i c < userUnitsOf G

@@ -3,3 +3,4 @@ pub mod Sets
 pub mod Roles
 pub mod Places
 pub mod Ranges
+pub mod Theorems
