@@ -5,8 +5,8 @@ use mathlib.Core.Path.{_≡_, refl, sym, _∙_, subst}
 use mathlib.Core.Logic.{_⊎_, inl, inr}
 use mathlib.Core.Bool.{Bool, true, false, true≢false}
 use mathlib.Core.List.{List, [], _∷_, _++_}
-use Rattle.refusal.specs.Refusal.{Rule, Outcome, refused, accepted, answer, verdict}
-use Rattle.refusal.specs.Due.{Row, Silent, Due, NoneDue, Exact}
+use Rattle.refusal.specs.Refusal.{Rule, rule, Outcome, refused, accepted, answer, verdict}
+use Rattle.refusal.specs.Due.{Row, row, Silent, Due, NoneDue, Exact}
 use Rattle.refusal.proofs.Answer.{refused-accepted, first, next}
 
 -- a rule fits a row: its test passes where the row holds, and the row holds at the rule's place and nowhere else
@@ -14,6 +14,28 @@ pub record Fit (x : Rule) (w : Row) : Type 0 where
   pub number : x .number ≡ w .number
   pub holds : x .test ≡ true → w .holds (x .place)
   pub only : (p : ℕ) → w .holds p → (x .test ≡ true) × (p ≡ x .place)
+
+-- a row that has no place of its own: place 0
+pub zero-fit :
+    (n : ℕ) (t : Bool) (P : Type 0) → (t ≡ true → P) → (P → t ≡ true)
+    → Fit (rule n t 0) (row n (λ (p : ℕ). (p ≡ 0) × P))
+zero-fit n t P to from =
+    record {
+      number = refl;
+      holds = λ (e : t ≡ true). (refl, to e);
+      only = λ (p : ℕ) (h : (p ≡ 0) × P). (from (h .1), h .0);
+    }
+
+-- the same row in other words
+pub fit-words :
+    (x : Rule) (n : ℕ) (P Q : ℕ → Type 0)
+    → ((p : ℕ) → P p → Q p) → ((p : ℕ) → Q p → P p) → Fit x (row n P) → Fit x (row n Q)
+fit-words x n P Q to from f =
+    record {
+      number = f .number;
+      holds = λ (e : x .test ≡ true). to (x .place) (f .holds e);
+      only = λ (p : ℕ) (h : Q p). f .only p (from p h);
+    }
 
 -- the rules fit the rows one by one; a later row's fit may assume that no earlier row holds anywhere
 abbrev pub Fits : List Rule → List Row → Type 0
