@@ -1,8 +1,8 @@
 -- What the check accepts is a design, and every design is accepted. Assumes nothing.
-use Prim.Native.Nat.{ℕ, _+_, _-_, _*_, _/_, _%_, _<_, _≤_}
+use Prim.Native.Nat.{ℕ, _+_, _*_, _/_, _%_, _<_}
 use mathlib.Core.Path.{_≡_, sym, subst₂}
 use mathlib.Core.Logic.{_⊎_, inl, inr}
-use mathlib.Core.Bool.{Bool, true, false, not, _&&_}
+use mathlib.Core.Bool.{true, false, _&&_}
 use mathlib.Core.List.{List}
 use native.Mathlib.Decide.{decLt}
 use native.Mathlib.Omega.{arith}
@@ -10,17 +10,17 @@ use lib.ListN.{length}
 use lib.Dec.{eqb}
 use lib.Arith.{digits-div, digits-mod, digits-lt}
 use borrow.Author.Tests.{eq-eqb, eqb-true, eqb-false, not-false}
-use Rattle.counting.specs.Counting.{anyBelow}
 use Rattle.counting.proofs.Bools.{bool-either, bool-not-both, and-both, both-and, not-is-false}
 use Rattle.counting.proofs.Laws.{any-none, none-any}
 use Rattle.refusal.specs.Refusal.{verdict, accepted}
 use Rattle.refusal.proofs.Answer.{accepted-quiet, quiet-accepted}
-use Rattle.geometry.specs.Geometry.{Limits, beyondLimits, whole, bOf}
+use Rattle.geometry.specs.Geometry.{Limits, whole, bOf}
+use Rattle.geometry.proofs.Laws.{limits-of, of-limits}
 use Rattle.design.specs.Design.{groupAt, OneRow, Design}
 use Rattle.design.specs.Rules.{rowBad, rowsWith, pairBad, designRules}
 use Rattle.design.specs.Reasons.{BadRow, BadPair}
 use Rattle.design.proofs.Firsts.{never-true}
-use Rattle.design.proofs.Words.{beyond-words, limits-of, limits-not-beyond, row-words, words-row, one-row, row-one, pair-words, words-pair}
+use Rattle.design.proofs.Words.{row-words, words-row, one-row, row-one, pair-words, words-pair}
 pub use Rattle.design.proofs.Words.{whole-parts}
 
 -- the bound of a row's groups, and that they ascend, where the row is not bad
@@ -85,7 +85,7 @@ pub design-accepted :
 unfolding designRules
 design-accepted v k d L w D =
     quiet-accepted (designRules v k d) tt (
-      never-true (beyondLimits v k) (λ (e : beyondLimits v k ≡ true). limits-not-beyond v k L (beyond-words v k e)),
+      of-limits v k L,
       (
         not-is-false (whole v k && eqb (length d) (bOf v k * k))
             (both-and (whole v k) (eqb (length d) (bOf v k * k)) w (eq-eqb (length d) (bOf v k * k) (D .size))),

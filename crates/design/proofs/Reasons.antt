@@ -1,10 +1,10 @@
 -- Refusals 2 to 5 come exactly as 01 tables them. Assumes nothing.
-use Prim.Native.Nat.{ℕ, _+_, _-_, _*_, _/_, _%_, _<_, _≤_}
-use mathlib.Core.Path.{_≡_, refl, sym, _∙_, subst₂}
+use Prim.Native.Nat.{ℕ, _+_, _*_, _/_, _%_, _<_, _≤_}
+use mathlib.Core.Path.{_≡_, sym, subst₂}
 use mathlib.Core.Logic.{_⊎_, inl, inr}
-use mathlib.Core.Bool.{Bool, true, false, not, _&&_}
+use mathlib.Core.Bool.{not, _&&_}
 use mathlib.Core.List.{List}
-use native.Mathlib.Nat.{div-add-mod', mod-lt, mul-le-mul-right, suc-mul}
+use native.Mathlib.Nat.{div-add-mod', mul-le-mul-right}
 use native.Mathlib.Decide.{decLt}
 use native.Mathlib.Omega.{arith}
 use lib.ListN.{length}
@@ -12,13 +12,14 @@ use lib.Dec.{eqb}
 use lib.Arith.{digits-div, digits-mod, digits-lt, add-lt-cancel-left}
 use Rattle.counting.specs.Counting.{lowest, anyBelow}
 use Rattle.refusal.specs.Refusal.{rule, verdict}
-use Rattle.refusal.specs.Due.{row, Silent, Exact}
+use Rattle.refusal.specs.Due.{row, Exact}
 use Rattle.refusal.proofs.Exactness.{Fit, Fits, zero-fit, fit-words, silent-fit, exact}
-use Rattle.geometry.specs.Geometry.{Limits, beyondLimits, whole, bOf}
+use Rattle.geometry.specs.Geometry.{beyondLimits, whole, bOf}
+use Rattle.geometry.proofs.Laws.{limits-of}
 use Rattle.design.specs.Rules.{rowBad, pairBad, designRules}
 use Rattle.design.specs.Reasons.{BeyondLimits, NotWhole, BadRow, BadPair, FirstBadPair, designRows}
 use Rattle.design.proofs.Firsts.{First, first-fit}
-use Rattle.design.proofs.Words.{beyond-words, words-beyond, limits-of, whole-words, words-whole, row-words, words-row, pair-words, words-pair}
+use Rattle.design.proofs.Words.{beyond-words, words-beyond, whole-words, words-whole, row-words, words-row, pair-words, words-pair}
 
 -- (x,y) stands before (a,c): "lowest a then b"
 abbrev Before : (x y a c : ℕ) → Type 0

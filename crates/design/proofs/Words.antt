@@ -1,18 +1,19 @@
 -- The tests of rows 2 to 5 against what the rows say in words. Assumes nothing.
-use Prim.Native.Nat.{ℕ, zero, suc, _+_, _-_, _*_, _/_, _%_, _<_, _≤_}
-use mathlib.Core.Path.{_≡_, refl, sym, ap, _∙_}
+use Prim.Native.Nat.{ℕ, _+_, _-_, _*_, _/_, _%_, _<_}
+use mathlib.Core.Path.{_≡_, refl}
 use mathlib.Core.Logic.{_⊎_, inl, inr}
 use mathlib.Core.Bool.{Bool, true, false, not, _&&_, _||_}
 use mathlib.Core.List.{List}
-use native.Mathlib.Nat.{mul-div-cancel, mod-lt, mul-le-mul}
+use native.Mathlib.Nat.{mul-div-cancel, mod-lt}
 use native.Mathlib.Omega.{arith}
 use lib.ListN.{length}
 use lib.Dec.{ltb, leb, eqb}
-use borrow.Author.Tests.{lt-ltb, ltb-true, ltb-false, le-leb, leb-true, eq-eqb, eqb-true, eqb-false, ne-eqb, not-true, not-false}
-use Rattle.counting.specs.Counting.{countBelow, anyBelow}
-use Rattle.counting.proofs.Bools.{bool-either, bool-not-both, and-both, both-and, or-one, or-none, left-or, right-or, not-is-true}
+use borrow.Author.Tests.{lt-ltb, ltb-true, le-leb, leb-true, eq-eqb, eqb-true, eqb-false, ne-eqb, not-true}
+use Rattle.counting.specs.Counting.{anyBelow}
+use Rattle.counting.proofs.Bools.{bool-either, and-both, both-and, or-one, left-or, right-or, not-is-true}
 use Rattle.counting.proofs.Laws.{any-true, any-witness, count-one, count-one-is}
 use Rattle.geometry.specs.Geometry.{Limits, beyondLimits, rOf, bOf, whole}
+use Rattle.geometry.proofs.Laws.{limits-of, tuple-pos}
 use Rattle.design.specs.Design.{groupAt, names, InRow, OneRow}
 use Rattle.design.specs.Rules.{rowBad, rowsWith, pairBad}
 use Rattle.design.specs.Reasons.{BeyondLimits, NotWhole, BadRow, BadPair}
@@ -45,34 +46,19 @@ module _ (v k : ℕ) where
       go (inr (inr (inr (inl e)))) = inr (inr (inr (inl (ltb-true 10 k e))))
       go (inr (inr (inr (inr e)))) = inr (inr (inr (inr (ltb-true v k e))))
 
-  pub limits-not-beyond : Limits v k → BeyondLimits v k → ⊥
+  limits-not-beyond : Limits v k → BeyondLimits v k → ⊥
   limits-not-beyond L (inl e) = omega arith
   limits-not-beyond L (inr (inl e)) = omega arith
   limits-not-beyond L (inr (inr (inl e))) = omega arith
   limits-not-beyond L (inr (inr (inr (inl e)))) = omega arith
   limits-not-beyond L (inr (inr (inr (inr e)))) = omega arith
 
-  pub limits-of : beyondLimits v k ≡ false → Limits v k
-  unfolding beyondLimits
-  limits-of h =
-      let a = or-none (ltb v 2 || ltb 91 v || ltb k 2 || ltb 10 k) (ltb v k) h in
-      let b = or-none (ltb v 2 || ltb 91 v || ltb k 2) (ltb 10 k) (a .0) in
-      let c = or-none (ltb v 2 || ltb 91 v) (ltb k 2) (b .0) in
-      let e = or-none (ltb v 2) (ltb 91 v) (c .0) in
-      record {
-        v-low = ltb-false v 2 (e .0);
-        v-high = ltb-false 91 v (e .1);
-        k-low = ltb-false k 2 (c .1);
-        k-high = ltb-false 10 k (b .1);
-        k-v = ltb-false v k (a .1);
-      }
-
   pub words-beyond : BeyondLimits v k → beyondLimits v k ≡ true
   words-beyond h = go (bool-either (beyondLimits v k))
     where
       go : (beyondLimits v k ≡ true) ⊎ (beyondLimits v k ≡ false) → beyondLimits v k ≡ true
       go (inl e) = e
-      go (inr e) = absurd (limits-not-beyond (limits-of e) h)
+      go (inr e) = absurd (limits-not-beyond (limits-of v k e) h)
 
 -- ---- row 3
 
@@ -97,14 +83,8 @@ whole-parts v k h =
     (eqb-true (rOf v k * (k - 1)) (v - 1) (w .0), eqb-true (bOf v k * (k * (k - 1))) (v * (v - 1)) (w .1))
 
 module _ (v k : ℕ) (L : Limits v k) where
-  pub below-pos : 0 < k - 1
+  below-pos : 0 < k - 1
   below-pos = omega arith
-
-  pub pairs-pos : 0 < k * (k - 1)
-  pairs-pos =
-      let a : 1 ≤ k = omega arith in
-      let b : 1 ≤ k - 1 = omega arith in
-      omega (arith, mul-le-mul a b)
 
   pub r-is : (r : ℕ) → r * (k - 1) ≡ v - 1 → rOf v k ≡ r
   unfolding rOf
@@ -112,7 +92,7 @@ module _ (v k : ℕ) (L : Limits v k) where
 
   pub b-is : (b : ℕ) → b * (k * (k - 1)) ≡ v * (v - 1) → bOf v k ≡ b
   unfolding bOf
-  b-is b e = quotient-is b (k * (k - 1)) (v * (v - 1)) pairs-pos e
+  b-is b e = quotient-is b (k * (k - 1)) (v * (v - 1)) (tuple-pos v k L) e
 
   -- r and b are whole exactly if the numbers that they stand for are there
   pub parts-whole : (r b : ℕ) → r * (k - 1) ≡ v - 1 → b * (k * (k - 1)) ≡ v * (v - 1) → whole v k ≡ true

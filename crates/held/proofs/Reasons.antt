@@ -2,7 +2,7 @@
 use Prim.Native.Nat.{ℕ, _-_, _*_, _<_, _≤_}
 use mathlib.Core.Path.{_≡_, refl, sym, ap, _∙_, subst₂}
 use mathlib.Core.Logic.{_⊎_, inl, inr}
-use mathlib.Core.Bool.{Bool, true, false, not, _&&_, cond}
+use mathlib.Core.Bool.{Bool, true, false, not, _&&_}
 use mathlib.Core.List.{List, [], _∷_}
 use native.Mathlib.Nat.{mul-le-mul}
 use native.Mathlib.Omega.{arith}
@@ -10,8 +10,8 @@ use lib.ListN.{length}
 use lib.Dec.{ltb, eqb}
 use borrow.Author.Tests.{ltb-true, eqb-true, eqb-false, eq-eqb, ne-eqb, not-true}
 use Rattle.counting.proofs.Bools.{bool-either, and-both, not-is-true}
-use Rattle.refusal.specs.Refusal.{Rule, rule, answer}
-use Rattle.refusal.specs.Due.{Row, row, Exact}
+use Rattle.refusal.specs.Refusal.{rule, answer}
+use Rattle.refusal.specs.Due.{row, Exact}
 use Rattle.refusal.proofs.Exactness.{Fit, Fits, zero-fit, silent-fit, exact}
 use Rattle.geometry.specs.Geometry.{bOf}
 use Rattle.design.proofs.Words.{quotient-is}

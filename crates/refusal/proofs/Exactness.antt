@@ -2,10 +2,10 @@
 -- p exactly if n is due at p, and accepted exactly if none is due. Assumes nothing.
 use Prim.Native.Nat.{ℕ}
 use mathlib.Core.Path.{_≡_, refl, sym, _∙_, subst}
-use mathlib.Core.Logic.{_⊎_, inl, inr}
+use mathlib.Core.Logic.{inl, inr}
 use mathlib.Core.Bool.{Bool, true, false, true≢false}
 use mathlib.Core.List.{List, [], _∷_, _++_}
-use Rattle.refusal.specs.Refusal.{Rule, rule, Outcome, refused, accepted, answer, verdict}
+use Rattle.refusal.specs.Refusal.{Rule, rule, refused, accepted, answer}
 use Rattle.refusal.specs.Due.{Row, row, Silent, Due, NoneDue, Exact}
 use Rattle.refusal.proofs.Answer.{refused-accepted, first, next}
 
@@ -52,6 +52,11 @@ fits-append [] ys (w ∷ ws) zs f g = absurd f
 fits-append (x ∷ xs) ys [] zs f g = absurd f
 fits-append (x ∷ xs) ys (w ∷ ws) zs f g =
     (f .0, λ (s : Silent w). fits-append xs ys ws zs (f .1 s) (λ (r : NoneDue ws). g (s, r)))
+
+pub fits-last :
+    (xs : List Rule) (x : Rule) (ws : List Row) (w : Row)
+    → Fits xs ws → (NoneDue ws → Fit x w) → Fits (xs ++ (x ∷ [])) (ws ++ (w ∷ []))
+fits-last xs x ws w f g = fits-append xs (x ∷ []) ws (w ∷ []) f (λ (s : NoneDue ws). (g s, λ (_ : Silent w). tt))
 
 -- a row is silent exactly if the test of its rule fails
 pub fit-silent : (x : Rule) (w : Row) → Fit x w → x .test ≡ false → Silent w
