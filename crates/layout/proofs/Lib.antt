@@ -4,3 +4,5 @@ pub mod Numbering
 pub mod Roles
 pub mod Sets
 pub mod SetNumbers
+pub mod Places
+pub mod Disks

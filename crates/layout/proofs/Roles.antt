@@ -14,17 +14,11 @@ use Rattle.layout.specs.declared.Role.the-variants.{User, Outer, Inner}
 use Rattle.layout.specs.Cells.{cell, labelColumn, labelAt, diagonalAt, parityPosition, dataPosition, dataNumber}
 use Rattle.layout.specs.Sets.{outerMember, outerParity, innerParity}
 use Rattle.layout.specs.Ranges.{CellIn, RoleIn, OuterIn, InnerIn, UserIn}
+use Rattle.layout.specs.Theorems.{labelOf, diagonalOf}
 use Rattle.layout.specs.Roles.{userNumber, userColumn, userRow, userRegion, userTuple, userCell, userOuter, innerOf, user, outer, inner, roleOf, cellOf}
 use Rattle.layout.proofs.Turns.{label-of-column, column-of-label, labelColumn-lt, labelAt-lt, diagonalAt-lt, parity-column, parity-diagonal, column-of-diagonal}
 use Rattle.layout.proofs.Positions.{parityPosition-lt, dataPosition-lt, dataPosition-other, number-of-position, position-of-number, dataNumber-lt}
 use Rattle.layout.proofs.Numbering.{number-lt, column-of-number, row-of-number, region-of-number, tuple-of-number, number-of-digits, digits-in}
-
--- the label's c and the diagonal of a cell
-abbrev pub labelOf : Geometry → Cell → ℕ
-labelOf G x = labelAt (G .g) (x .position) (x .row) (x .column)
-
-abbrev pub diagonalOf : Geometry → Cell → ℕ
-diagonalOf G x = diagonalAt (G .g) (x .row) (x .column)
 
 -- the role of a cell, by cases
 pub role-inner : (G : Geometry) (x : Cell) → x .row ≡ G .g - 1 → roleOf G x ≡ inner (x .tuple .0) (x .position) (diagonalOf G x)

@@ -75,6 +75,14 @@ pub diagonalAt-lt : (g i x : ℕ) → 0 < g → diagonalAt g i x < g
 unfolding diagonalAt
 diagonalAt-lt g i x h = mod-lt (i + (g - x)) h
 
+-- a diagonal has one unit in a column
+pub row-of-column : (g j i : ℕ) → j ≤ g → i < g → (diagonalColumn g j i + j) % g ≡ i
+unfolding diagonalColumn
+row-of-column g j i h = turn-back g 1 (g - j) j i (omega arith)
+
+pub diagonal-once : (g j i n : ℕ) → j ≤ g → i < g → n < g → diagonalColumn g j i ≡ diagonalColumn g j n → i ≡ n
+diagonal-once g j i n h p q e = sym (row-of-column g j i h p) ∙ ap (λ (x : ℕ). (x + j) % g) e ∙ row-of-column g j n h q
+
 -- equation 2: "Row g-1 holds its parity, in column g-1-j"
 pub parity-column : (g j : ℕ) → j < g → diagonalColumn g j (g - 1) ≡ g - 1 - j
 unfolding diagonalColumn

@@ -9,11 +9,19 @@ use Rattle.design.specs.Design.{Laid}
 use Rattle.layout.specs.declared.Cell.{Cell}
 use Rattle.layout.specs.declared.Place.{Place}
 use Rattle.layout.specs.declared.Role.{Role}
-use Rattle.layout.specs.Cells.{parityPosition, dataPosition, diagonalAt}
+use Rattle.layout.specs.declared.Four.{Four}
+use Rattle.layout.specs.Cells.{labelAt, diagonalAt, parityPosition, dataPosition}
 use Rattle.layout.specs.Sets.{InOuter, InInner, outerNumber, innerNumber}
 use Rattle.layout.specs.Roles.{userCell, userOuter, userTuple, userRow, userColumn, user, outer, inner, cellOf}
 use Rattle.layout.specs.Places.{place, placeOf, roleAt, fourOf}
 use Rattle.layout.specs.Ranges.{CellIn, PlaceIn, RoleIn, OuterIn, InnerIn}
+
+-- the c of a cell's label, and its diagonal
+abbrev pub labelOf : Geometry → Cell → ℕ
+labelOf G x = labelAt (G .g) (x .position) (x .row) (x .column)
+
+abbrev pub diagonalOf : Geometry → Cell → ℕ
+diagonalOf G x = diagonalAt (G .g) (x .row) (x .column)
 
 -- one inner set (t,l,j), and no other, holds the cell
 pub record OneInner (G : Geometry) (x : Cell) : Type 0 where
@@ -69,3 +77,16 @@ pub record Numbered (G : Geometry) : Type 0 where
 
 abbrev pub Every-set-has-one-number : Type 0
 Every-set-has-one-number = (G : Geometry) → Sound G → Numbered G
+
+-- "the data unit, its outer parity, the inner parity of the data unit and the inner parity of the outer parity unit" lie on
+-- four different disks
+pub record FourApart (f : Four) : Type 0 where
+  pub user-outer : f .user .disk ≡ f .outer .disk → ⊥
+  pub user-inner : f .user .disk ≡ f .inner .disk → ⊥
+  pub user-both : f .user .disk ≡ f .both .disk → ⊥
+  pub outer-inner : f .outer .disk ≡ f .inner .disk → ⊥
+  pub outer-both : f .outer .disk ≡ f .both .disk → ⊥
+  pub inner-both : f .inner .disk ≡ f .both .disk → ⊥
+
+abbrev pub The-four-disks-differ : Type 0
+The-four-disks-differ = (G : Geometry) (d : List ℕ) → Laid G d → (n : ℕ) → n < userUnitsOf G → FourApart (fourOf G d n)
