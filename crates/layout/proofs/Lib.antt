@@ -6,3 +6,4 @@ pub mod Sets
 pub mod SetNumbers
 pub mod Places
 pub mod Disks
+pub mod Theorems

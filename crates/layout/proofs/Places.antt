@@ -12,18 +12,19 @@ use Rattle.counting.proofs.Laws.{count-lt, nth-count, nth-lt, nth-holds, count-
 use Rattle.geometry.specs.declared.Geometry.{Geometry}
 use Rattle.geometry.specs.Geometry.{Sound, rOf, tuplesOf, disksOf, unitsOf}
 use Rattle.design.specs.Design.{groupAt, names, Design, Laid}
-use Rattle.design.proofs.Rows.{in-names, position-lt, position-holds, position-is}
+use Rattle.design.proofs.Rows.{in-names, position-lt, position-holds, position-is, each-group-in-r-rows}
 use Rattle.layout.specs.declared.Cell.{Cell}
 use Rattle.layout.specs.declared.Place.{Place}
 use Rattle.layout.specs.Cells.{cell}
 use Rattle.layout.specs.Places.{place, groupOf, partOf, tupleOf, positionOf, placeOf, cellAt}
 use Rattle.layout.specs.Ranges.{CellIn, PlaceIn}
 
--- "Each disk has r parts": each group stands in r rows
-abbrev InRRows : Geometry → List ℕ → Type 0
-InRRows G d = (a : ℕ) → a < G .v → countBelow (names (G .k) d a) (tuplesOf G) ≡ rOf (G .v) (G .k)
+module _ (G : Geometry) (d : List ℕ) (L : Laid G d) where
+  -- "Each disk has r parts": each group stands in r rows
+  in-r-rows : (a : ℕ) → a < G .v → countBelow (names (G .k) d a) (tuplesOf G) ≡ rOf (G .v) (G .k)
+  in-r-rows a h =
+      each-group-in-r-rows (G .v) (G .k) (tuplesOf G) d (L .sound .limits .k-low) (L .design) (L .sound .r-whole) a h
 
-module _ (G : Geometry) (d : List ℕ) (L : Laid G d) (R : InRRows G d) where
   g-pos : 0 < G .g
   g-pos = omega arith
 
@@ -39,7 +40,7 @@ module _ (G : Geometry) (d : List ℕ) (L : Laid G d) (R : InRRows G d) where
 
     part-lt : partOf G d (groupOf G d x) (x .tuple .0) < rOf (G .v) (G .k)
     unfolding partOf
-    part-lt = omega (arith, count-lt (names (G .k) d (groupOf G d x)) (x .tuple .0) (tuplesOf G) (h .tuple) named, R (groupOf G d x) group-lt)
+    part-lt = omega (arith, count-lt (names (G .k) d (groupOf G d x)) (x .tuple .0) (tuplesOf G) (h .tuple) named, in-r-rows (groupOf G d x) group-lt)
 
     tuple-back : tupleOf G d (groupOf G d x) (partOf G d (groupOf G d x) (x .tuple .0)) ≡ x .tuple .0
     unfolding tupleOf partOf
@@ -66,7 +67,7 @@ module _ (G : Geometry) (d : List ℕ) (L : Laid G d) (R : InRRows G d) where
 
     part-of : y / G .g < countBelow (names (G .k) d (x / G .g)) (tuplesOf G)
     unfolding unitsOf
-    part-of = rw (R (x / G .g) group-of) (div-lt-iff-lt-mul g-pos .1 hy)
+    part-of = rw (in-r-rows (x / G .g) group-of) (div-lt-iff-lt-mul g-pos .1 hy)
 
     tuple-lt : tupleOf G d (x / G .g) (y / G .g) < tuplesOf G
     unfolding tupleOf

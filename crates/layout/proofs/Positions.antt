@@ -74,3 +74,8 @@ position-of-number k t l h = filled (parityPosition k t) l h .back
 pub dataNumber-lt : (k t l : ℕ) → 0 < k → l < k → (l ≡ parityPosition k t → ⊥) → dataNumber k t l < k - 1
 unfolding dataNumber
 dataNumber-lt k t l p h n = filled (parityPosition k t) l n .low k (parityPosition-lt k t p) h
+
+-- with the parity at position k-1 the m-th data region stands at position m
+pub data-position : (k t m : ℕ) → m < k - 1 → dataPosition k t m ≡ m
+unfolding dataPosition parityPosition
+data-position k t m h = rw (lt-ltb m (k - 1) h)

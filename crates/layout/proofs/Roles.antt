@@ -49,6 +49,13 @@ kind G x = go (eqb (x .row) (G .g - 1)) refl (eqb (x .position) (parityPosition 
     go false p true q = at-outer (eqb-false _ _ p) (eqb-true _ _ q)
     go false p false q = at-user (eqb-false _ _ p) (eqb-false _ _ q)
 
+-- the cell of the user unit with given digits
+pub user-cell : (G : Geometry) (t m i c : ℕ) → UserIn G t m i c
+    → userCell G (userNumber G t m i c) ≡ outerMember G t i c (dataPosition (G .k) t m)
+unfolding userCell
+user-cell G t m i c h =
+    rw (tuple-of-number G t m i c h, region-of-number G t m i c h, row-of-number G t m i c h, column-of-number G t m i c h)
+
 module _ (G : Geometry) (s : Sound G) where
   g-pos : 0 < G .g
   g-pos = omega arith
@@ -97,7 +104,7 @@ module _ (G : Geometry) (s : Sound G) where
 
     -- a cell's role has that cell, and is a role of the geometry
     pub cell-of-role : cellOf G (roleOf G x) ≡ x
-    unfolding cellOf userCell
+    unfolding cellOf
     cell-of-role = go (kind G x)
       where
         go : Kind G x → cellOf G (roleOf G x) ≡ x
@@ -107,8 +114,7 @@ module _ (G : Geometry) (s : Sound G) where
             rw (role-inner G x e, ← parity-column (G .g) (diagonalOf G x) d, ← e) (rw (column-of-diagonal (G .g) (x .row) (x .column) r (h .column)))
         go (at-outer n e) = rw (role-outer G x n e, ← e, column-back)
         go (at-user n m) =
-            let u : UserIn G (x .tuple .0) (dataNumber (G .k) (x .tuple .0) (x .position)) (x .row) (labelOf G x) = user-in n m in
-            rw (role-user G x n m, tuple-of-number G _ _ _ _ u, region-of-number G _ _ _ _ u, row-of-number G _ _ _ _ u, column-of-number G _ _ _ _ u, position-of-number (G .k) (x .tuple .0) (x .position) m, column-back)
+            rw (role-user G x n m, user-cell G _ _ _ _ (user-in n m), position-of-number (G .k) (x .tuple .0) (x .position) m, column-back)
 
     pub role-in : RoleIn G (roleOf G x)
     role-in = go (kind G x)
