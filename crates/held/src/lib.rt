@@ -1,1 +1,89 @@
 // The held difference sets (01), and the call that fills a lent list with the design of a held v.
+ghost use mathlib.Core.Path.{_≡_};
+ghost use Prim.Native.Nat.{ℕ, _+_, _*_, _/_, _%_, _<_, _≤_};
+ghost use lib.ListN.{length, take};
+ghost use Rattle.counting.specs.Lists.{listOf};
+ghost use Rattle.refusal.specs.Refusal.{verdict, kept, checkedOutcome};
+ghost use Rattle.held.specs.Held.{setFor, heldGroup, heldDesign, fillRules};
+ghost use Rattle.held.specs.Developed.{Developable, firstPast};
+
+use refusal::Checked;
+use refusal::Refusal;
+
+// 000's table 1, with 57 for its fifth v (01): v, the length of its set, and the set, padded to ten members.
+const VS: [u32; 7] = [7, 13, 21, 31, 57, 73, 91];
+const LENGTHS: [usize; 7] = [3, 4, 5, 6, 8, 9, 10];
+const SETS: [[u16; 10]; 7] = [
+    [0, 1, 3, 0, 0, 0, 0, 0, 0, 0],
+    [0, 1, 3, 9, 0, 0, 0, 0, 0, 0],
+    [0, 1, 4, 14, 16, 0, 0, 0, 0, 0],
+    [0, 1, 3, 8, 12, 18, 0, 0, 0, 0],
+    [0, 1, 3, 13, 32, 36, 43, 52, 0, 0],
+    [0, 1, 3, 7, 15, 31, 36, 54, 63, 0],
+    [0, 1, 3, 9, 27, 49, 56, 61, 77, 81],
+];
+
+// A row of the table: the set is the first `length` members.
+pub struct Padded {
+    pub members: [u16; 10],
+    pub length: usize,
+}
+
+// The set held for v, and one of no members where none is.
+pub fn padded_for(v: u32) -> Padded
+    ensures { λ r. ⌜ (r .length ≡ length (setFor v)) × (take (r .length) (r .members) ≡ setFor v) ⌝ }
+{
+    let mut i: usize = 0;
+    while i < 7 {
+        if VS[i] == v {
+            let members = SETS[i];
+            let length = LENGTHS[i];
+            return Padded { members, length };
+        }
+        i += 1;
+    }
+    Padded {
+        members: [0; 10],
+        length: 0,
+    }
+}
+
+// The first member that reaches v where i is added to it, and the set's length where none does.
+pub fn first_past(v: u16, set: &[u16], i: u16) -> usize
+    requires { ⌜ Developable v (now set) × (i < v) ⌝ }
+    ensures { λ r. ⌜ r ≡ firstPast v (now (set .entry)) i ⌝ }
+{
+    let mut j: usize = 0;
+    while j < set.len() {
+        if v <= set[j] + i {
+            return j;
+        }
+        j += 1;
+    }
+    j
+}
+
+// The l-th lowest group of row i: the members from `past` on come first, less v, and then the others.
+pub fn group_of(v: u16, set: &[u16], i: u16, past: usize, l: usize) -> u16
+    requires { ⌜ Developable v (now set) × (i < v) × (past ≡ firstPast v (now set) i) × (l < length (now set)) ⌝ }
+    ensures { λ r. ⌜ r ≡ heldGroup v (now (set .entry)) i l ⌝ }
+{
+    let wrapped = set.len() - past;
+    if l < wrapped {
+        return set[past + l] + i - v;
+    }
+    set[l - wrapped] + i
+}
+
+// Row i of the design, into a list of the set's length.
+pub fn develop_row(v: u16, set: &[u16], i: u16, row: &mut [u16])
+    requires { ⌜ Developable v (now set) × (i < v) × (length (now row) ≡ length (now set)) ⌝ }
+    ensures { λ r. ⌜ now (row .exit) ≡ listOf (heldGroup v (now (set .entry)) i) (length (now (set .entry))) ⌝ }
+{
+    let past = first_past(v, set, i);
+    let mut l: usize = 0;
+    while l < set.len() {
+        row[l] = group_of(v, set, i, past, l);
+        l += 1;
+    }
+}

@@ -1,0 +1,78 @@
+use borrow.Author.Needs.{needs}
+use Rattle.held.proofs.padded_for.Statement.{statement}
+use Rattle.held.proofs.padded_for.Tie as tie
+use Rattle.held.proofs.padded_for.Reads as reads
+use Rattle.held.proofs.padded_for.Lts as lts
+
+abbrev Inv-loop : tie.InvT-loop
+Inv-loop v i₀ i = ?
+
+abbrev μ-loop : tie.MeasureT-loop
+μ-loop v i₀ i = ?
+
+-- src/lib.rt:37:5
+loop-holds : tie.Need-loop-holds Inv-loop μ-loop
+loop-holds c = search needs
+
+-- src/lib.rt:38:12
+mul-if1 : tie.Need-mul-if1 Inv-loop μ-loop
+mul-if1 c = search needs
+
+-- src/lib.rt:38:12
+array-read-if1 : tie.Need-array-read-if1 Inv-loop μ-loop
+array-read-if1 c = search needs
+
+-- src/lib.rt:39:27
+mul-members : tie.Need-mul-members Inv-loop μ-loop
+mul-members c = search needs
+
+-- src/lib.rt:39:27
+array-copy-out-members : tie.Need-array-copy-out-members Inv-loop μ-loop
+array-copy-out-members c = search needs
+
+-- src/lib.rt:40:26
+mul-length : tie.Need-mul-length Inv-loop μ-loop
+mul-length c = search needs
+
+-- src/lib.rt:40:26
+array-read-length : tie.Need-array-read-length Inv-loop μ-loop
+array-read-length c = search needs
+
+-- src/lib.rt:41:13
+returns : tie.Need-returns Inv-loop μ-loop
+returns c = search needs
+
+-- src/lib.rt:43:9
+add-i : tie.Need-add-i Inv-loop μ-loop
+add-i c = search needs
+
+-- src/lib.rt:37:5
+loop-less : tie.Need-loop-less Inv-loop μ-loop
+loop-less c = search needs
+
+-- src/lib.rt:37:5
+loop-again : tie.Need-loop-again Inv-loop μ-loop
+loop-again c = search needs
+
+-- src/lib.rt:33:1
+returns-2 : tie.Need-returns-2 Inv-loop μ-loop
+returns-2 c = search needs
+
+pub padded-for-spec : {M : Type 1} → statement M
+padded-for-spec =
+    tie.close
+    (tie.spec
+    Inv-loop
+    μ-loop
+    loop-holds
+    mul-if1
+    array-read-if1
+    mul-members
+    array-copy-out-members
+    mul-length
+    array-read-length
+    returns
+    add-i
+    loop-less
+    loop-again
+    returns-2)
