@@ -1,1 +1,4 @@
 pub mod Reasons
+pub mod Padding
+pub mod Ascending
+pub mod Rotation

@@ -1,18 +1,25 @@
+use Prim.Native.Nat.{_≤_, _-_}
+use mathlib.Core.Path.{_≡_, refl, ap, _∙_}
+use native.Mathlib.Omega.{arith}
+use lib.ListN.{length, drop}
 use borrow.Author.Needs.{needs}
+use Rattle.held.specs.Held.{table, lookup, setFor}
+use Rattle.held.proofs.Padding.{stops, passes, ends}
 use Rattle.held.proofs.padded_for.Statement.{statement}
 use Rattle.held.proofs.padded_for.Tie as tie
 use Rattle.held.proofs.padded_for.Reads as reads
 use Rattle.held.proofs.padded_for.Lts as lts
 
 abbrev Inv-loop : tie.InvT-loop
-Inv-loop v i₀ i = ?
+Inv-loop v i₀ i = (i ≤ 7) × (lookup (drop i table) v ≡ setFor v)
 
 abbrev μ-loop : tie.MeasureT-loop
-μ-loop v i₀ i = ?
+μ-loop v i₀ i = 7 - i
 
 -- src/lib.rt:37:5
 loop-holds : tie.Need-loop-holds Inv-loop μ-loop
-loop-holds c = search needs
+unfolding setFor
+loop-holds c = (omega arith, refl)
 
 -- src/lib.rt:38:12
 mul-if1 : tie.Need-mul-if1 Inv-loop μ-loop
@@ -40,7 +47,9 @@ array-read-length c = search needs
 
 -- src/lib.rt:41:13
 returns : tie.Need-returns Inv-loop μ-loop
-returns c = search needs
+returns c =
+    stops table _ (c .before .before .before .loop .i) _ (c .before .before .before .loop .inv .1)
+    (c .before .before .loop-test .taken) (c .before .if1 .taken)
 
 -- src/lib.rt:43:9
 add-i : tie.Need-add-i Inv-loop μ-loop
@@ -52,11 +61,14 @@ loop-less c = search needs
 
 -- src/lib.rt:37:5
 loop-again : tie.Need-loop-again Inv-loop μ-loop
-loop-again c = search needs
+loop-again c =
+    (omega arith,
+      passes table _ (c .before .before .loop .i) (c .before .loop-test .taken) (c .if1 .left)
+      ∙ c .before .before .loop .inv .1)
 
 -- src/lib.rt:33:1
 returns-2 : tie.Need-returns-2 Inv-loop μ-loop
-returns-2 c = search needs
+returns-2 c = ends table _ (c .before .loop .i) _ (c .before .loop .inv .1) (c .loop-test .left)
 
 pub padded-for-spec : {M : Type 1} → statement M
 padded-for-spec =
