@@ -2,3 +2,4 @@ pub mod Reasons
 pub mod Padding
 pub mod Ascending
 pub mod Rotation
+pub mod Filling

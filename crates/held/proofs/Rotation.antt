@@ -9,9 +9,9 @@ use native.Mathlib.Omega.{arith}
 use native.Mathlib.Decide.{decLt}
 use lib.ListN.{length, getD}
 use lib.Dec.{ltb, leb, eqb}
-use borrow.Author.Tests.{lt-ltb, le-ltb, leb-true, leb-false, eq-eqb, eqb-true}
+use borrow.Author.Tests.{lt-ltb, le-ltb, le-leb, lt-leb, leb-true, leb-false, eq-eqb, eqb-true}
 use Rattle.counting.specs.Counting.{lowest}
-use Rattle.counting.proofs.Laws.{lowest-le, lowest-holds, lowest-before, any-true, any-witness}
+use Rattle.counting.proofs.Laws.{lowest-is, lowest-none, lowest-le, lowest-holds, lowest-before, any-true, any-witness}
 use Rattle.held.specs.Held.{shifted, heldGroup}
 use Rattle.held.specs.Developed.{Developable, firstPast}
 use Rattle.held.proofs.Ascending.{Listed, ascends-far, ascends-le, listed-nth}
@@ -22,6 +22,22 @@ mod-low n v h = mod-eq-of-lt h
 
 pub mod-high : (n v : ℕ) → v ≤ n → n < v + v → n % v ≡ n - v
 mod-high n v h q = mod-eq-sub-mod h ∙ mod-eq-of-lt (omega arith)
+
+-- a scan finds the first member that reaches v, or none
+pub past-is :
+    (v : ℕ) (s : List ℕ) (i j : ℕ) → j < length s → v ≤ getD s j 0 + i →
+    ((m : ℕ) → m < j → getD s m 0 + i < v) → j ≡ firstPast v s i
+unfolding firstPast
+past-is v s i j h y before =
+    sym
+    (lowest-is (λ (j : ℕ). leb v (getD s j 0 + i)) (length s) j h (le-leb v (getD s j 0 + i) y)
+    (λ m q. lt-leb v (getD s m 0 + i) (before m q)))
+
+pub past-none :
+    (v : ℕ) (s : List ℕ) (i : ℕ) → ((m : ℕ) → m < length s → getD s m 0 + i < v) → length s ≡ firstPast v s i
+unfolding firstPast
+past-none v s i before =
+    sym (lowest-none (λ (j : ℕ). leb v (getD s j 0 + i)) (length s) (λ m q. lt-leb v (getD s m 0 + i) (before m q)))
 
 -- how many members reach v
 abbrev pub wrapped : (v : ℕ) → List ℕ → (i : ℕ) → ℕ
