@@ -3,3 +3,4 @@ pub mod Padding
 pub mod Ascending
 pub mod Rotation
 pub mod Filling
+pub mod Table
