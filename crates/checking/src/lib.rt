@@ -1,1 +1,3 @@
 // The design check: refusals 2 to 5 with their places.
+mod pairs;
+mod rows;

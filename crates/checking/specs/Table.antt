@@ -1,0 +1,42 @@
+-- The pair table with which the design check counts, for each pair of groups a<c, the rows that name both: one entry for
+-- the pair at a·v+c, "the count, or 2 where it is more". The promise of the check itself does not mention it.
+-- Assumes nothing.
+use Prim.Native.Nat.{ℕ, _+_, _*_, _/_, _%_, _≤_, _<_, min}
+use mathlib.Core.Path.{_≡_}
+use mathlib.Core.Bool.{Bool, true, false, not, _&&_}
+use mathlib.Core.List.{List}
+use lib.ListN.{getD, length}
+use lib.Dec.{ltb, eqb}
+use Rattle.geometry.specs.Geometry.{Limits}
+use Rattle.design.specs.Rules.{rowBad, rowsWith}
+
+-- the list has b rows of k, for v groups: neither 2 nor 3 is due
+pub record Rows (v k b : ℕ) (d : List ℕ) : Type 0 where
+  pub limits : Limits v k
+  pub size : length d ≡ b * k
+
+-- besides, row t is one of them that 4 does not refuse, and the table has an entry for each pair
+pub record GoodRow (v k t : ℕ) (d table : List ℕ) : Type 0 where
+  pub limits : Limits v k
+  pub row-end : t * k + k ≤ length d
+  pub good : rowBad v k d t ≡ false
+  pub room : v * v ≤ length table
+
+-- an entry that is counted up where the test passes, and stays at 2
+abbrev pub markedIf : Bool → ℕ → ℕ
+markedIf true n = min (n + 1) 2
+markedIf false n = n
+
+-- the table where each pair that passes the test is counted up, and every other pair stays
+pub record Marked (v : ℕ) (f : ℕ → ℕ → Bool) (old new : List ℕ) : Type 0 where
+  pub size : length new ≡ length old
+  pub each : (a c : ℕ) → a < c → c < v → getD new (a * v + c) 0 ≡ markedIf (f a c) (getD old (a * v + c) 0)
+
+-- the table after t rows
+pub record Counted (v k t : ℕ) (d table : List ℕ) : Type 0 where
+  pub room : v * v ≤ length table
+  pub each : (a c : ℕ) → a < c → c < v → getD table (a * v + c) 0 ≡ min (rowsWith k t d a c) 2
+
+-- the table says that a<c is a pair that does not stand in exactly one row
+unfoldable pub entryBad : (v : ℕ) → List ℕ → (a c : ℕ) → Bool
+entryBad v table a c = ltb a c && not (eqb (getD table (a * v + c) 0) 1)

@@ -1,0 +1,78 @@
+// Refusal 5: "a pair a<b not in exactly one row", at the lowest a·v+b. One table counts the rows of every pair.
+use crate::rows::wide;
+ghost use mathlib.Core.Path.{_≡_};
+ghost use mathlib.Core.Bool.{_&&_};
+ghost use Prim.Native.Nat.{ℕ, _+_, _*_, _/_, _%_, _≤_, _<_, min};
+ghost use lib.ListN.{length};
+ghost use lib.Dec.{eqb};
+ghost use Rattle.counting.specs.Counting.{lowest};
+ghost use Rattle.geometry.specs.Geometry.{Limits};
+ghost use Rattle.design.specs.Design.{groupAt, names};
+ghost use Rattle.design.specs.Rules.{rowBad, pairBad};
+ghost use Rattle.checking.specs.Table.{Rows, GoodRow, Marked, Counted, entryBad};
+
+// A pair may stand in thousands of rows, and none, one and more are all that is asked.
+fn one_more(x: u8) -> u8
+    ensures { λ r. ⌜ r ≡ min (x + 1) 2 ⌝ }
+{
+    if x == 0 { 1 } else { 2 }
+}
+
+// Counts the pairs of row t's group at position l with the groups after it.
+fn mark_with(table: &mut [u8], design: &[u16], v: usize, k: usize, t: usize, l: usize)
+    requires { ⌜ GoodRow v k t (now design) (now table) × (l < k) ⌝ }
+    ensures { λ _. ⌜ Marked v (λ (a c : ℕ). eqb (groupAt k (now (design .entry)) t l) a && names k (now (design .entry)) c t) (now (table .entry)) (now (table .exit)) ⌝ }
+{
+    let at = t * k;
+    let base = wide(design[at + l]) * v;
+    let mut m = l + 1;
+    while m < k {
+        let p = base + wide(design[at + m]);
+        table[p] = one_more(table[p]);
+        m += 1;
+    }
+}
+
+// Counts the pairs of row t.
+fn mark_row(table: &mut [u8], design: &[u16], v: usize, k: usize, t: usize)
+    requires { ⌜ GoodRow v k t (now design) (now table) ⌝ }
+    ensures { λ _. ⌜ Marked v (λ (a c : ℕ). names k (now (design .entry)) a t && names k (now (design .entry)) c t) (now (table .entry)) (now (table .exit)) ⌝ }
+{
+    let mut l: usize = 0;
+    while l < k {
+        mark_with(table, design, v, k, t, l);
+        l += 1;
+    }
+}
+
+// The lowest c of which the table says that the pair a<c is bad, and v where there is none.
+fn first_bad_with(table: &[u8], v: usize, a: usize) -> usize
+    requires { ⌜ (v ≤ 91) × (a < v) × (v * v ≤ length (now table)) ⌝ }
+    ensures { λ r. ⌜ r ≡ lowest (entryBad v (now (table .entry)) a) v ⌝ }
+{
+    let base = a * v;
+    let mut c = a + 1;
+    while c < v {
+        if table[base + c] != 1 {
+            return c;
+        }
+        c += 1;
+    }
+    v
+}
+
+// The lowest a·v+c of which the table says that the pair a<c is bad, and v·v where there is none.
+fn first_bad_in(table: &[u8], v: usize) -> usize
+    requires { ⌜ (v ≤ 91) × (1 ≤ v) × (v * v ≤ length (now table)) ⌝ }
+    ensures { λ r. ⌜ r ≡ lowest (λ (m : ℕ). entryBad v (now (table .entry)) (m / v) (m % v)) (v * v) ⌝ }
+{
+    let mut a: usize = 0;
+    while a < v {
+        let c = first_bad_with(table, v, a);
+        if c < v {
+            return a * v + c;
+        }
+        a += 1;
+    }
+    v * v
+}
