@@ -1,2 +1,3 @@
 pub mod Ascending
+pub mod Entries
 pub mod Scan
