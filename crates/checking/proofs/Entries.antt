@@ -1,19 +1,21 @@
 -- Entries of the pair table: where they lie, and which are bad. Assumes nothing.
-use Prim.Native.Nat.{ℕ, _+_, _*_, _/_, _%_, _≤_, _<_}
+use Prim.Native.Nat.{ℕ, _+_, _-_, _*_, _≤_, _<_}
 use mathlib.Core.Path.{_≡_, refl, sym, ap, _∙_}
 use mathlib.Core.Bool.{Bool, true, false, not}
 use mathlib.Core.Logic.{_⊎_, inl, inr}
 use mathlib.Core.List.{List}
+use native.Mathlib.Nat.{mul-le-mul-right, suc-mul}
+use native.Mathlib.Numerals.{add-one}
 use native.Mathlib.Omega.{arith}
 use lib.Arith.{digits-lt, digits-div, digits-mod}
 use lib.Dec.{ltb, eqb}
 use lib.ListN.{length, getD}
-use borrow.Author.Tests.{lt-ltb, le-ltb, eq-eqb, ne-eqb}
+use borrow.Author.Tests.{ltb-true, ltb-false, lt-ltb, le-ltb, eq-eqb, ne-eqb}
 use Rattle.counting.specs.Counting.{lowest}
-use Rattle.counting.proofs.Bools.{both-and, and-left-false, and-right-false, not-is-true, not-is-false}
-use Rattle.counting.proofs.Laws.{}
-use Rattle.checking.specs.Table.{entryBad}
-use Rattle.checking.proofs.Scan.{Scanned}
+use Rattle.counting.proofs.Bools.{bool-either, both-and, and-left-false, and-right-false, not-is-true, not-is-false}
+use Rattle.counting.proofs.Laws.{lowest-le, lowest-holds, lowest-before, lowest-is}
+use Rattle.checking.specs.Table.{entryBad, numberBad}
+use Rattle.checking.proofs.Scan.{Scanned, scanned-found}
 
 -- ---- bad entries
 
@@ -38,3 +40,48 @@ entry-no-pair v table a c h =
 pub scanned-above : (v : ℕ) (table : List ℕ) (a : ℕ) → a < v → Scanned (entryBad v table a) v (a + 1)
 scanned-above v table a h =
     record { most = omega arith; before = λ (j : ℕ) (q : j < a + 1). entry-no-pair v table a j (omega arith) }
+
+-- ---- all pairs: lines of v numbers, a·v to a·v+v-1
+
+number-bad : (v : ℕ) (table : List ℕ) (a c : ℕ) → c < v → numberBad v table (a * v + c) ≡ entryBad v table a c
+number-bad v table a c h = rw (digits-div a h, digits-mod a h)
+
+-- a scan of all pairs goes on by c numbers of line a
+scanned-line :
+    (v : ℕ) (table : List ℕ) (a c : ℕ)
+    → Scanned (numberBad v table) (v * v) (a * v) → a < v → c ≤ lowest (entryBad v table a) v
+    → Scanned (numberBad v table) (v * v) (a * v + c)
+scanned-line v table a c s h q =
+    record { most = most; before = λ (m : ℕ) (p : m < a * v + c). go m p (bool-either (ltb m (a * v))) }
+  where
+    le : c ≤ v
+    le = omega (arith, lowest-le (entryBad v table a) v)
+
+    most : a * v + c ≤ v * v
+    most = omega (arith, mul-le-mul-right v h, suc-mul a v, le)
+
+    go : (m : ℕ) → m < a * v + c → (ltb m (a * v) ≡ true) ⊎ (ltb m (a * v) ≡ false) → numberBad v table m ≡ false
+    go m p (inl t) = s .before m (ltb-true m (a * v) t)
+    go m p (inr t) =
+        let low : a * v ≤ m = ltb-false m (a * v) t in
+        let e : m ≡ a * v + (m - a * v) = omega arith in
+        let j : m - a * v < c = omega arith in
+        let b : entryBad v table a (m - a * v) ≡ false = lowest-before (entryBad v table a) v (m - a * v) (omega arith) in
+        rw e (number-bad v table a (m - a * v) (omega (arith, le)) ∙ b)
+
+pub scanned-lines :
+    (v : ℕ) (table : List ℕ) (a c : ℕ)
+    → Scanned (numberBad v table) (v * v) (a * v) → a < v → c ≡ lowest (entryBad v table a) v → v ≤ c
+    → Scanned (numberBad v table) (v * v) ((a + 1) * v)
+scanned-lines v table a c s h e q =
+    let n : (a + 1) * v ≡ a * v + v = rw (add-one a) (suc-mul a v) in
+    rw n (scanned-line v table a v s h (omega arith))
+
+pub line-found :
+    (v : ℕ) (table : List ℕ) (a c : ℕ)
+    → Scanned (numberBad v table) (v * v) (a * v) → a < v → c ≡ lowest (entryBad v table a) v → c < v
+    → a * v + c ≡ lowest (numberBad v table) (v * v)
+line-found v table a c s h e q =
+    let bad : entryBad v table a c ≡ true = rw e (lowest-holds (entryBad v table a) v (rw e at q)) in
+    scanned-found (numberBad v table) (v * v) (a * v + c)
+    (scanned-line v table a c s h (omega arith)) (digits-lt h q) (number-bad v table a c q ∙ bad)

@@ -40,3 +40,7 @@ pub record Counted (v k t : ℕ) (d table : List ℕ) : Type 0 where
 -- the table says that a<c is a pair that does not stand in exactly one row
 unfoldable pub entryBad : (v : ℕ) → List ℕ → (a c : ℕ) → Bool
 entryBad v table a c = ltb a c && not (eqb (getD table (a * v + c) 0) 1)
+
+-- the same of the pair that the number a·v+c gives [for 1 ≤ v]
+abbrev pub numberBad : (v : ℕ) → List ℕ → ℕ → Bool
+numberBad v table m = entryBad v table (m / v) (m % v)

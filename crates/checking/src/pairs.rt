@@ -2,14 +2,14 @@
 use crate::rows::wide;
 ghost use mathlib.Core.Path.{_≡_};
 ghost use mathlib.Core.Bool.{_&&_};
-ghost use Prim.Native.Nat.{ℕ, _+_, _*_, _/_, _%_, _≤_, _<_, min};
+ghost use Prim.Native.Nat.{ℕ, _+_, _*_, _≤_, _<_, min};
 ghost use lib.ListN.{length};
 ghost use lib.Dec.{eqb};
 ghost use Rattle.counting.specs.Counting.{lowest};
 ghost use Rattle.geometry.specs.Geometry.{Limits};
 ghost use Rattle.design.specs.Design.{groupAt, names};
 ghost use Rattle.design.specs.Rules.{rowBad, pairBad};
-ghost use Rattle.checking.specs.Table.{Rows, GoodRow, Marked, Counted, entryBad};
+ghost use Rattle.checking.specs.Table.{Rows, GoodRow, Marked, Counted, entryBad, numberBad};
 
 // A pair may stand in thousands of rows, and none, one and more are all that is asked.
 fn one_more(x: u8) -> u8
@@ -47,7 +47,7 @@ fn mark_row(table: &mut [u8], design: &[u16], v: usize, k: usize, t: usize)
 
 // The lowest c of which the table says that the pair a<c is bad, and v where there is none.
 fn first_bad_with(table: &[u8], v: usize, a: usize) -> usize
-    requires { ⌜ (v ≤ 91) × (a < v) × (v * v ≤ length (now table)) ⌝ }
+    requires { ⌜ (a < v) × (v * v ≤ length (now table)) ⌝ }
     ensures { λ r. ⌜ r ≡ lowest (entryBad v (now (table .entry)) a) v ⌝ }
 {
     let base = a * v;
@@ -63,8 +63,8 @@ fn first_bad_with(table: &[u8], v: usize, a: usize) -> usize
 
 // The lowest a·v+c of which the table says that the pair a<c is bad, and v·v where there is none.
 fn first_bad_in(table: &[u8], v: usize) -> usize
-    requires { ⌜ (v ≤ 91) × (1 ≤ v) × (v * v ≤ length (now table)) ⌝ }
-    ensures { λ r. ⌜ r ≡ lowest (λ (m : ℕ). entryBad v (now (table .entry)) (m / v) (m % v)) (v * v) ⌝ }
+    requires { ⌜ v * v ≤ length (now table) ⌝ }
+    ensures { λ r. ⌜ r ≡ lowest (numberBad v (now (table .entry))) (v * v) ⌝ }
 {
     let mut a: usize = 0;
     while a < v {

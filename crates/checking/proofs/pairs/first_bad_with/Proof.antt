@@ -18,7 +18,7 @@ abbrev μ-loop : tie.MeasureT-loop
 
 -- src/pairs.rt:53:16
 mul-base : tie.Need-mul-base Inv-loop μ-loop
-mul-base c = omega (arith, digits-lt (c .pre .1) (c .pre .1))
+mul-base c = omega (arith, digits-lt (c .pre .0) (c .pre .0))
 
 -- src/pairs.rt:54:17
 add-c : tie.Need-add-c Inv-loop μ-loop
@@ -26,15 +26,15 @@ add-c c = search needs
 
 -- src/pairs.rt:55:5
 loop-holds : tie.Need-loop-holds Inv-loop μ-loop
-loop-holds c = (scanned-above _ _ _ (c .pre .1), omega arith)
+loop-holds c = (scanned-above _ _ _ (c .pre .0), omega arith)
 
 -- src/pairs.rt:56:18
 add-if1 : tie.Need-add-if1 Inv-loop μ-loop
-add-if1 c = omega (arith, digits-lt (c .before .before .pre .1) (c .loop-test .taken))
+add-if1 c = omega (arith, digits-lt (c .before .before .pre .0) (c .loop-test .taken))
 
 -- src/pairs.rt:56:12
 shared-slice-read-if1 : tie.Need-shared-slice-read-if1 Inv-loop μ-loop
-shared-slice-read-if1 c = omega (arith, digits-lt (c .before .before .before .pre .1) (c .before .loop-test .taken))
+shared-slice-read-if1 c = omega (arith, digits-lt (c .before .before .before .pre .0) (c .before .loop-test .taken))
 
 -- src/pairs.rt:57:13
 returns : tie.Need-returns Inv-loop μ-loop
