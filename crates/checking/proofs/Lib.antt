@@ -1,3 +1,4 @@
 pub mod Ascending
 pub mod Entries
+pub mod Marks
 pub mod Scan
