@@ -94,14 +94,6 @@ module _ (v k : ℕ) (L : Limits v k) where
   unfolding bOf
   b-is b e = quotient-is b (k * (k - 1)) (v * (v - 1)) (tuple-pos v k L) e
 
-  -- r and b are whole exactly if the numbers that they stand for are there
-  pub parts-whole : (r b : ℕ) → r * (k - 1) ≡ v - 1 → b * (k * (k - 1)) ≡ v * (v - 1) → whole v k ≡ true
-  unfolding whole
-  parts-whole r b e f =
-      both-and (eqb (rOf v k * (k - 1)) (v - 1)) (eqb (bOf v k * (k * (k - 1))) (v * (v - 1)))
-      (eq-eqb (rOf v k * (k - 1)) (v - 1) (rw (r-is r e) e))
-      (eq-eqb (bOf v k * (k * (k - 1))) (v * (v - 1)) (rw (b-is b f) f))
-
   module _ (d : List ℕ) where
     pub whole-words : not (whole v k && eqb (length d) (bOf v k * k)) ≡ true → NotWhole v k d
     unfolding whole

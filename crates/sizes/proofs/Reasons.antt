@@ -2,20 +2,23 @@
 use Prim.Native.Nat.{ℕ, _/_, _%_, _≤_, _<_}
 use mathlib.Core.Path.{_≡_}
 use mathlib.Core.Bool.{true, not}
-use mathlib.Core.List.{List}
+use mathlib.Core.List.{List, [], _∷_}
 use native.Mathlib.Nat.{mul-mod-left, div-add-mod'}
 use native.Mathlib.Omega.{arith}
-use borrow.Author.Tests.{not-true}
+use borrow.Author.Tests.{not-true, not-false}
 use Rattle.counting.proofs.Bools.{bool-not-both, not-is-true}
-use Rattle.refusal.specs.Refusal.{rule, answer}
+use Rattle.refusal.specs.Refusal.{rule, accepted, answer, verdict}
+use Rattle.refusal.proofs.Answer.{accepted-append, accepted-quiet}
 use Rattle.refusal.specs.Due.{row, Exact}
 use Rattle.refusal.proofs.Exactness.{Fit, Fits, zero-fit, fits-last, exact}
 use Rattle.geometry.specs.declared.Geometry.{Geometry}
-use Rattle.geometry.specs.Geometry.{sizesAllowed}
-use Rattle.geometry.proofs.Laws.{no-divisors, no-divisor, allowed-parts, parts-allowed}
+use Rattle.geometry.specs.Geometry.{sizesAllowed, tuplesOf}
+use Rattle.geometry.proofs.Laws.{no-divisors, no-divisor, allowed-parts, parts-allowed, sound-of}
+use Rattle.design.specs.Design.{Laid}
 use Rattle.design.specs.Rules.{designRules}
 use Rattle.design.specs.Reasons.{designRows}
 use Rattle.design.proofs.Firsts.{never-true}
+use Rattle.design.proofs.Accepted.{accepted-is-design}
 use Rattle.design.proofs.Reasons.{design-fits}
 use Rattle.sizes.specs.Sizes.{sizesRules}
 use Rattle.sizes.specs.Reasons.{Divides, Allowed, sizesRows}
@@ -73,3 +76,15 @@ module _ (G : Geometry) (d : List ℕ) where
   -- "refusals come exactly as tabled": 2 to 6
   pub sizes-exact : {A : Type 0} (a : A) → Exact (sizesRows G d) (answer (sizesRules G d) a)
   sizes-exact a = exact (sizesRules G d) (sizesRows G d) a sizes-fits
+
+  -- what none of 2 to 6 refuses can be laid out
+  pub accepted-is-laid : verdict (sizesRules G d) ≡ accepted tt → Laid G d
+  unfolding sizesRules tuplesOf
+  accepted-is-laid e =
+      let a = accepted-append (designRules (G .v) (G .k) d) (rule 6 (not (sizesAllowed (G .k) (G .g) (G .u))) 0 ∷ []) e in
+      let q = accepted-quiet (rule 6 (not (sizesAllowed (G .k) (G .g) (G .u))) 0 ∷ []) tt tt (a .1) in
+      let D = accepted-is-design (G .v) (G .k) d (a .0) in
+      record {
+        sound = sound-of G (D .0) (D .1) (not-false (sizesAllowed (G .k) (G .g) (G .u)) (q .0));
+        design = D .2;
+      }
