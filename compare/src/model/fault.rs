@@ -1,0 +1,84 @@
+//! Faults that can be planted into the independent program: the misreadings that document 01 warns of, and slips that a
+//! test has to notice. A program with one of them must differ from the proved library; `compare faults` shows it.
+
+/// The fault that is planted, if any.
+#[derive(Clone, Copy)]
+pub struct Plant(Option<Fault>);
+
+impl Plant {
+    pub const NONE: Plant = Plant(None);
+
+    pub fn of(fault: Fault) -> Self {
+        Plant(Some(fault))
+    }
+
+    pub(super) fn has(self, fault: Fault) -> bool {
+        self.0 == Some(fault)
+    }
+}
+
+/// The faults with what each does, said once.
+macro_rules! faults {
+    ($($name:ident: $text:literal,)*) => {
+        #[derive(Clone, Copy, Debug, PartialEq, Eq)]
+        pub enum Fault { $(#[doc = $text] $name),* }
+
+        impl Fault {
+            pub const ALL: &[Fault] = &[$(Fault::$name),*];
+
+            /// What the fault does.
+            pub fn text(self) -> &'static str {
+                match self { $(Fault::$name => $text),* }
+            }
+        }
+    };
+}
+
+faults! {
+    FiftyOne: "the fifth held set is for 51, as table 1 prints",
+    FillUnsorted: "a held row is not sorted after the addition modulo v",
+    FillFromRowOne: "row i of a held design has i+1 added",
+    FillLongerList: "a list longer than b·k is filled",
+    FillStoresOnRefusal: "fill stores before it refuses",
+    TallRowIsThree: "k above v is refusal 3",
+    EqualKRefused: "k = v is refused",
+    NinetyTwoGroups: "v = 92 is within the limits",
+    NinetyGroups: "v = 91 is beyond the limits",
+    ElevenInRow: "k = 11 is within the limits",
+    NineInRow: "k = 10 is beyond the limits",
+    LongerList: "a design list longer than b·k is accepted",
+    PartsNotWhole: "only b is asked to be whole, not r",
+    GroupNumberV: "group number v is accepted in a row",
+    EqualNeighbours: "equal neighbours in a row are accepted",
+    FourFromOne: "the place of refusal 4 counts rows from 1",
+    FourLastRow: "the place of refusal 4 is the last such row",
+    FiveBeforeFour: "refusal 5 is tested before 4",
+    LastTwoPairs: "the last two pairs are not tested",
+    PairMissing: "a pair that stands in no row is accepted",
+    PairTwice: "a pair that stands in several rows is accepted",
+    FiveTurned: "the place of refusal 5 is b·v+a",
+    SixBeforeFive: "refusal 6 is tested before the design",
+    NineDisks: "g = 9 is accepted",
+    FewDisks: "g below k is accepted",
+    ThirteenDisks: "g = 13 is refused",
+    NoBytes: "u = 0 is accepted",
+    UnitOneByteLonger: "u = 4097 is accepted",
+    DiskBound: "disk number v·g is accepted",
+    UnitBound: "unit number r·g is accepted",
+    UserBound: "a user unit number one too high is accepted",
+    ShiftLeft: "labels are shifted left",
+    ShiftByRowAlone: "labels are shifted by i alone, the same at positions 1 and 2",
+    OuterParityFirst: "the outer parity is at position 0",
+    ParityInColumnJ: "diagonal j's parity is in column j",
+    DiagonalsRunLeft: "diagonals run down to the left",
+    OneParityOfTwo: "the inner parity of the outer parity unit is forgotten: that of the data unit is named twice",
+    OnePlaceAlways: "the map names the places of user unit 0 always",
+    UserFromOne: "the way back numbers user units from 1",
+    PositionInnermost: "user units are numbered with the position running fastest",
+    PartsFromLastRow: "parts are counted from the design's last row upwards",
+    DisksByColumn: "disks are numbered column by column",
+    UnitsByRow: "units are numbered row by row",
+    ColumnForLabel: "the way back names an outer parity by its column, not its label",
+    InnerSetsForgotten: "the count of sets leaves out the inner sets",
+    BytesWrap: "the array's bytes are counted in 32 bits",
+}
