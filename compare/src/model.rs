@@ -4,14 +4,16 @@
 //! labels whose rows are shifted, diagonals are walked, parts are counted while walking down the design, disks, units
 //! and user units are numbered by enumerating them, and every question is answered out of the tables so filled.
 //!
-//! A `plant.has(Fault::…)` marks a place where a known misreading can be planted; see [`fault`]. With [`Plant::NONE`]
-//! none of them is taken.
+//! A `plant.has(Fault::…)` or `plant.or(right, Fault::…, wrong)` marks a place where a known misreading can be planted;
+//! see [`fault`]. With [`Plant::NONE`] none of them is taken.
 
 mod answer;
 mod design;
 pub mod fault;
 mod held;
+mod homes;
 mod layout;
+mod region;
 #[cfg(test)]
 mod tests;
 

@@ -25,25 +25,13 @@ pub(super) fn check(v: u32, k: u32, design: &[u16], plant: Plant) -> Result<Coun
 
 /// 2: "v or k beyond its limits". "v runs from 2 to 91, k from 2 to 10, and k is at most v; k = v is allowed".
 fn limits(v: u32, k: u32, plant: Plant) -> Result<(), Refusal> {
-    let v_most = if plant.has(Fault::NinetyTwoGroups) {
-        92
-    } else if plant.has(Fault::NinetyGroups) {
-        90
-    } else {
-        91
-    };
-    let k_most = if plant.has(Fault::ElevenInRow) {
-        11
-    } else if plant.has(Fault::NineInRow) {
-        9
-    } else {
-        10
-    };
+    let v_most = plant.or(plant.or(91, Fault::NinetyGroups, 90), Fault::NinetyTwoGroups, 92);
+    let k_most = plant.or(plant.or(10, Fault::NineInRow, 9), Fault::ElevenInRow, 11);
     if !(2..=v_most).contains(&v) || !(2..=k_most).contains(&k) {
         return Err(Refusal::placeless(2));
     }
     if k > v || k == v && plant.has(Fault::EqualKRefused) {
-        return Err(Refusal::placeless(if plant.has(Fault::TallRowIsThree) { 3 } else { 2 }));
+        return Err(Refusal::placeless(plant.or(2, Fault::TallRowIsThree, 3)));
     }
     Ok(())
 }
@@ -51,10 +39,8 @@ fn limits(v: u32, k: u32, plant: Plant) -> Result<(), Refusal> {
 /// 3: "r or b not whole, or list length not b·k". "r = (v-1)/(k-1) and b = v(v-1)/(k(k-1))": the whole numbers that
 /// satisfy these are sought.
 fn lengths(v: u32, k: u32, length: usize, plant: Plant) -> Result<Counts, Refusal> {
-    let mut parts = (1..v).find(|r| r * (k - 1) == v - 1);
-    if plant.has(Fault::PartsNotWhole) {
-        parts = parts.or(Some(v));
-    }
+    let parts = (1..v).find(|r| r * (k - 1) == v - 1);
+    let parts = plant.or(parts, Fault::PartsNotWhole, parts.or(Some(v)));
     let tuples = (1..=v * (v - 1)).find(|b| b * k * (k - 1) == v * (v - 1));
     let (Some(parts), Some(tuples)) = (parts, tuples) else {
         return Err(Refusal::placeless(3));
@@ -69,12 +55,12 @@ fn lengths(v: u32, k: u32, length: usize, plant: Plant) -> Result<Counts, Refusa
 
 /// 4: "a group number of v or more, or a row not ascending", place "first such row". "Rows ascend strictly."
 fn ascent(v: u32, rows: &[&[u16]], plant: Plant) -> Result<(), Refusal> {
-    let too_high = |group: &u16| u32::from(*group) >= v + u32::from(plant.has(Fault::GroupNumberV));
+    let too_high = |group: &u16| u32::from(*group) >= plant.or(v, Fault::GroupNumberV, v + 1);
     let falls = |two: &[u16]| two[0] > two[1] || two[0] == two[1] && !plant.has(Fault::EqualNeighbours);
     let bad = |row: &&[u16]| row.iter().any(too_high) || row.windows(2).any(falls);
-    let found = if plant.has(Fault::FourLastRow) { rows.iter().rposition(bad) } else { rows.iter().position(bad) };
-    match found {
-        Some(row) => Err(Refusal { number: 4, place: row as u32 + u32::from(plant.has(Fault::FourFromOne)) }),
+    let found = plant.or(rows.iter().position(bad), Fault::FourLastRow, rows.iter().rposition(bad));
+    match found.map(|row| row as u32) {
+        Some(row) => Err(Refusal { number: 4, place: plant.or(row, Fault::FourFromOne, row + 1) }),
         None => Ok(()),
     }
 }
@@ -93,7 +79,7 @@ fn pairs(v: u32, rows: &[&[u16]], plant: Plant) -> Result<(), Refusal> {
             let count = rows.iter().filter(|row| **row & both == both).count();
             let allowed = count == 0 && plant.has(Fault::PairMissing) || count > 1 && plant.has(Fault::PairTwice);
             if count != 1 && !allowed {
-                let place = if plant.has(Fault::FiveTurned) { b * v + a } else { a * v + b };
+                let place = plant.or(a * v + b, Fault::FiveTurned, b * v + a);
                 return Err(Refusal { number: 5, place });
             }
         }
@@ -103,11 +89,11 @@ fn pairs(v: u32, rows: &[&[u16]], plant: Plant) -> Result<(), Refusal> {
 
 /// 6: "g or u not allowed". "g is a prime from 2 to 13 and at least k. A unit has u bytes, 1 to 4,096."
 pub(super) fn group_and_unit(k: u32, g: u32, u: u32, plant: Plant) -> Result<(), Refusal> {
-    let g_most = if plant.has(Fault::ThirteenDisks) { 11 } else { 13 };
+    let g_most = plant.or(13, Fault::ThirteenDisks, 11);
     let prime = (2..=g_most).contains(&g) && (2..g).all(|d| (2..g).all(|e| d * e != g));
     let wide = g >= k || plant.has(Fault::FewDisks);
-    let u_least = if plant.has(Fault::NoBytes) { 0 } else { 1 };
-    let u_most = if plant.has(Fault::UnitOneByteLonger) { 4097 } else { 4096 };
+    let u_least = plant.or(1, Fault::NoBytes, 0);
+    let u_most = plant.or(4096, Fault::UnitOneByteLonger, 4097);
     let allowed = (prime || g == 9 && plant.has(Fault::NineDisks)) && wide && (u_least..=u_most).contains(&u);
     if allowed {
         Ok(())

@@ -15,6 +15,15 @@ impl Plant {
     pub(super) fn has(self, fault: Fault) -> bool {
         self.0 == Some(fault)
     }
+
+    /// What is right, or what the fault takes for it where it is planted.
+    pub(super) fn or<T>(self, right: T, fault: Fault, wrong: T) -> T {
+        if self.has(fault) {
+            wrong
+        } else {
+            right
+        }
+    }
 }
 
 /// The faults with what each does, said once.
@@ -71,7 +80,7 @@ faults! {
     OuterParityFirst: "the outer parity is at position 0",
     ParityInColumnJ: "diagonal j's parity is in column j",
     DiagonalsRunLeft: "diagonals run down to the left",
-    OneParityOfTwo: "the inner parity of the outer parity unit is forgotten: that of the data unit is named twice",
+    InnerOfOuter: "the inner parity of the outer parity unit is forgotten: that of the data unit is named twice",
     OnePlaceAlways: "the map names the places of user unit 0 always",
     UserFromOne: "the way back numbers user units from 1",
     PositionInnermost: "user units are numbered with the position running fastest",

@@ -23,9 +23,7 @@ const FIFTH_AS_PRINTED: Line = (51, 51, 8, 8, 1, &[0, 1, 3, 13, 32, 36, 43, 52])
 /// Refusal 1, "no set held for v", then 3, "list length not b·k", then the rows one after another.
 pub(super) fn fill(v: u32, list: &mut [u16], plant: Plant) -> Result<(), Refusal> {
     let mut table = TABLE_1;
-    if plant.has(Fault::FiftyOne) {
-        table[4] = FIFTH_AS_PRINTED;
-    }
+    table[4] = plant.or(table[4], Fault::FiftyOne, FIFTH_AS_PRINTED);
     let (b, _, _, k, _, set) = *table.iter().find(|line| line.1 == v).ok_or(Refusal::placeless(1))?;
     let design: Vec<u16> = (0..b).flat_map(|i| developed(set, i, v, plant)).collect();
     debug_assert_eq!(design.len(), (b * k) as usize);
@@ -42,7 +40,7 @@ pub(super) fn fill(v: u32, list: &mut [u16], plant: Plant) -> Result<(), Refusal
 
 /// "Row i is the set with i added to each member modulo v, sorted upwards."
 fn developed(set: &[u32], i: u32, v: u32, plant: Plant) -> Vec<u16> {
-    let added = if plant.has(Fault::FillFromRowOne) { i + 1 } else { i };
+    let added = plant.or(i, Fault::FillFromRowOne, i + 1);
     let mut row: Vec<u16> = set.iter().map(|member| ((member + added) % v) as u16).collect();
     if !plant.has(Fault::FillUnsorted) {
         row.sort();
