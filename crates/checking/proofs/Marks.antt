@@ -17,8 +17,8 @@ use Rattle.counting.proofs.Bools.{bool-either, and-left-false, and-right-false}
 use Rattle.counting.proofs.Laws.{any-true, any-witness, any-none, none-any, count-zero, count-suc}
 use Rattle.design.specs.Design.{groupAt, names}
 use Rattle.design.specs.Rules.{rowsWith}
-use Rattle.checking.specs.Table.{markedIf, Marked, Counted, GoodRow}
-use Rattle.checking.proofs.Ascending.{Rising, rising-lt, rising-le, good-rising, good-below}
+use Rattle.checking.specs.Table.{markedIf, Marked, Counted, GoodRow, GoodRows}
+use Rattle.checking.proofs.Ascending.{Rising, rising-lt, rising-le, good-rising, good-below, row-within}
 
 -- ---- one pair
 
@@ -216,3 +216,95 @@ marked-to-all v k d t l base m old new r h =
     let most : m ≤ k = r .most in
     let e : m ≡ k = omega arith in
     rw e at (r .marks)
+
+-- the pairs of the first l groups with those behind them
+pub record RowTo (v k : ℕ) (d : List ℕ) (t l : ℕ) (old new : List ℕ) : Type 0 where
+  pub row : GoodRow v k t d old
+  pub most : l ≤ k
+  pub marks : Marked v (λ (a c : ℕ). among k d t l a && names k d c t) old new
+
+pub row-to-none :
+    (v k : ℕ) (d : List ℕ) (t : ℕ) (table : List ℕ) → GoodRow v k t d table → RowTo v k d t 0 table table
+row-to-none v k d t table g =
+    record {
+      row = g;
+      most = omega arith;
+      marks = mark-none v _ table (λ (a c : ℕ) (p : a < c). and-left-false (among k d t 0 a) (names k d c t) (none a));
+    }
+  where
+    none : (a : ℕ) → among k d t 0 a ≡ false
+    none a = none-any (λ (l : ℕ). eqb (groupAt k d t l) a) 0 (λ (j : ℕ) (h : j < 0). absurd (omega arith))
+
+pub row-to-row :
+    (v k : ℕ) (d : List ℕ) (t l : ℕ) (old new : List ℕ) → RowTo v k d t l old new → GoodRow v k t d new
+row-to-row v k d t l old new r =
+    let g = r .row in
+    record { limits = g .limits; row-end = g .row-end; good = g .good; room = omega (arith, g .room, r .marks .size) }
+
+pub row-to-next :
+    (v k : ℕ) (d : List ℕ) (t l : ℕ) (old mid new : List ℕ) → RowTo v k d t l old mid → l < k
+    → Marked v (λ (a c : ℕ). eqb (groupAt k d t l) a && names k d c t) mid new → RowTo v k d t (l + 1) old new
+row-to-next v k d t l old mid new r h s =
+    record { row = r .row; most = omega arith; marks = mark-then v _ _ _ old mid new (r .marks) s joined }
+  where
+    joined : (a c : ℕ) → Joined (among k d t l a && names k d c t) (eqb (groupAt k d t l) a && names k d c t) (among k d t (l + 1) a && names k d c t)
+    joined a c =
+        joined-right (names k d c t) _ _ _ (among-joined k d t l a (good-rising v k d t (r .row .good)) h)
+
+pub row-to-all :
+    (v k : ℕ) (d : List ℕ) (t l : ℕ) (old new : List ℕ) → RowTo v k d t l old new → k ≤ l
+    → Marked v (λ (a c : ℕ). names k d a t && names k d c t) old new
+unfolding names
+row-to-all v k d t l old new r h =
+    let most : l ≤ k = r .most in
+    let e : l ≡ k = omega arith in
+    rw e at (r .marks)
+
+-- ---- all rows
+
+counted-step : (f : Bool) (n : ℕ) → markedIf f (min n 2) ≡ min (oneMoreIf f n) 2
+counted-step true n = omega arith
+counted-step false n = refl
+
+pub counted-next :
+    (v k : ℕ) (d : List ℕ) (t : ℕ) (old new : List ℕ) → Counted v k t d old
+    → Marked v (λ (a c : ℕ). names k d a t && names k d c t) old new → Counted v k (t + 1) d new
+unfolding rowsWith
+counted-next v k d t old new r s =
+    record {
+      room = omega (arith, r .room, s .size);
+      each =
+        λ (a c : ℕ) (p : a < c) (q : c < v).
+        s .each a c p q
+        ∙ ap (markedIf (names k d a t && names k d c t)) (r .each a c p q)
+        ∙ counted-step (names k d a t && names k d c t) (rowsWith k t d a c)
+        ∙ sym (rw (add-one t, count-suc (λ (t : ℕ). names k d a t && names k d c t) t));
+    }
+
+pub counted-row :
+    (v k b : ℕ) (d : List ℕ) (t : ℕ) (table : List ℕ) → GoodRows v k b d → Counted v k t d table → t < b
+    → GoodRow v k t d table
+counted-row v k b d t table g r h =
+    record {
+      limits = g .rows .limits;
+      row-end = row-within (g .rows) h .1;
+      good = g .good t h;
+      room = r .room;
+    }
+
+pub counted-all :
+    (v k b : ℕ) (d : List ℕ) (t : ℕ) (table : List ℕ) → Counted v k t d table → t ≤ b → b ≤ t → Counted v k b d table
+counted-all v k b d t table r h q = let e : t ≡ b = omega arith in rw e at r
+
+-- nothing is counted yet
+pub counted-none : (v k : ℕ) (d : List ℕ) (n : ℕ) → v * v ≤ n → Counted v k 0 d (replicate n 0)
+unfolding rowsWith
+counted-none v k d n h =
+    record {
+      room = rw length-replicate h;
+      each =
+        λ (a c : ℕ) (p : a < c) (q : c < v).
+        let r : a < v = omega arith in
+        let w : a * v + c < n = omega (arith, digits-lt r q) in
+        getD-replicate n (a * v + c) 0 0 w ∙ sym (rw (count-zero (λ (t : ℕ). names k d a t && names k d c t)));
+    }

@@ -1,6 +1,5 @@
--- The pair table with which the design check counts, for each pair of groups a<c, the rows that name both: one entry for
--- the pair at a·v+c, "the count, or 2 where it is more". The promise of the check itself does not mention it.
--- Assumes nothing.
+-- The pair table: for each pair of groups a<c the entry a·v+c counts the rows that name both, up to 2. The design check
+-- works by it, and its promise does not mention it. Assumes nothing.
 use Prim.Native.Nat.{ℕ, _+_, _*_, _/_, _%_, _≤_, _<_, min}
 use mathlib.Core.Path.{_≡_}
 use mathlib.Core.Bool.{Bool, true, false, not, _&&_}
@@ -15,7 +14,12 @@ pub record Rows (v k b : ℕ) (d : List ℕ) : Type 0 where
   pub limits : Limits v k
   pub size : length d ≡ b * k
 
--- besides, row t is one of them that 4 does not refuse, and the table has an entry for each pair
+-- nor is 4
+pub record GoodRows (v k b : ℕ) (d : List ℕ) : Type 0 where
+  pub rows : Rows v k b d
+  pub good : (t : ℕ) → t < b → rowBad v k d t ≡ false
+
+-- row t is one that 4 does not refuse, and the table has an entry for each pair
 pub record GoodRow (v k t : ℕ) (d table : List ℕ) : Type 0 where
   pub limits : Limits v k
   pub row-end : t * k + k ≤ length d

@@ -6,10 +6,10 @@ ghost use Prim.Native.Nat.{ℕ, _+_, _*_, _≤_, _<_, min};
 ghost use lib.ListN.{length};
 ghost use lib.Dec.{eqb};
 ghost use Rattle.counting.specs.Counting.{lowest};
-ghost use Rattle.geometry.specs.Geometry.{Limits};
+ghost use Rattle.geometry.specs.Geometry.{bOf};
 ghost use Rattle.design.specs.Design.{groupAt, names};
-ghost use Rattle.design.specs.Rules.{rowBad, pairBad};
-ghost use Rattle.checking.specs.Table.{Rows, GoodRow, Marked, Counted, entryBad, numberBad};
+ghost use Rattle.design.specs.Rules.{pairBad};
+ghost use Rattle.checking.specs.Table.{GoodRows, GoodRow, Marked, Counted, entryBad, numberBad};
 
 // A pair may stand in thousands of rows, and none, one and more are all that is asked.
 fn one_more(x: u8) -> u8
@@ -45,6 +45,18 @@ fn mark_row(table: &mut [u8], design: &[u16], v: usize, k: usize, t: usize)
     }
 }
 
+// Counts the pairs of all rows.
+fn mark_rows(table: &mut [u8], design: &[u16], v: usize, k: usize, b: usize)
+    requires { ⌜ GoodRows v k b (now design) × Counted v k 0 (now design) (now table) ⌝ }
+    ensures { λ _. ⌜ Counted v k b (now (design .entry)) (now (table .exit)) ⌝ }
+{
+    let mut t: usize = 0;
+    while t < b {
+        mark_row(table, design, v, k, t);
+        t += 1;
+    }
+}
+
 // The lowest c of which the table says that the pair a<c is bad, and v where there is none.
 fn first_bad_with(table: &[u8], v: usize, a: usize) -> usize
     requires { ⌜ (a < v) × (v * v ≤ length (now table)) ⌝ }
@@ -75,4 +87,14 @@ fn first_bad_in(table: &[u8], v: usize) -> usize
         a += 1;
     }
     v * v
+}
+
+// The lowest a·v+c of a pair that does not stand in exactly one row, and v·v where there is none.
+pub fn first_bad_pair(design: &[u16], v: usize, k: usize, b: usize) -> usize
+    requires { ⌜ GoodRows v k b (now design) × (b ≡ bOf v k) ⌝ }
+    ensures { λ r. ⌜ r ≡ lowest (pairBad v k (now (design .entry))) (v * v) ⌝ }
+{
+    let mut table = [0u8; 8281];
+    mark_rows(&mut table[..], design, v, k, b);
+    first_bad_in(&table[..], v)
 }
