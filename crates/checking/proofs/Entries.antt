@@ -1,20 +1,22 @@
 -- Entries of the pair table: where they lie, and which are bad. Assumes nothing.
-use Prim.Native.Nat.{ℕ, _+_, _-_, _*_, _≤_, _<_}
+use Prim.Native.Nat.{ℕ, _+_, _-_, _*_, _/_, _%_, _≤_, _<_, min}
 use mathlib.Core.Path.{_≡_, refl, sym, ap, _∙_}
 use mathlib.Core.Bool.{Bool, true, false, not}
 use mathlib.Core.Logic.{_⊎_, inl, inr}
 use mathlib.Core.List.{List}
-use native.Mathlib.Nat.{mul-le-mul-right, suc-mul}
+use native.Mathlib.Nat.{mul-le-mul-right, suc-mul, mod-lt}
 use native.Mathlib.Numerals.{add-one}
 use native.Mathlib.Omega.{arith}
 use lib.Arith.{digits-lt, digits-div, digits-mod}
 use lib.Dec.{ltb, eqb}
 use lib.ListN.{length, getD}
-use borrow.Author.Tests.{ltb-true, ltb-false, lt-ltb, le-ltb, eq-eqb, ne-eqb}
+use borrow.Author.Tests.{ltb-true, ltb-false, lt-ltb, le-ltb, eq-eqb, ne-eqb, eqb-true, eqb-false}
 use Rattle.counting.specs.Counting.{lowest}
 use Rattle.counting.proofs.Bools.{bool-either, both-and, and-left-false, and-right-false, not-is-true, not-is-false}
-use Rattle.counting.proofs.Laws.{lowest-le, lowest-holds, lowest-before, lowest-is}
-use Rattle.checking.specs.Table.{entryBad, numberBad}
+use Rattle.counting.proofs.Laws.{lowest-le, lowest-holds, lowest-before, lowest-same}
+use Rattle.geometry.specs.Geometry.{bOf}
+use Rattle.design.specs.Rules.{rowsWith, pairBad}
+use Rattle.checking.specs.Table.{Counted, entryBad, numberBad}
 use Rattle.checking.proofs.Scan.{Scanned, scanned-found}
 
 -- ---- bad entries
@@ -85,3 +87,28 @@ line-found v table a c s h e q =
     let bad : entryBad v table a c ≡ true = rw e (lowest-holds (entryBad v table a) v (rw e at q)) in
     scanned-found (numberBad v table) (v * v) (a * v + c)
     (scanned-line v table a c s h (omega arith)) (digits-lt h q) (number-bad v table a c q ∙ bad)
+
+-- ---- the table after all rows
+
+min-one : (n : ℕ) → eqb (min n 2) 1 ≡ eqb n 1
+min-one n = go (bool-either (eqb n 1))
+  where
+    go : (eqb n 1 ≡ true) ⊎ (eqb n 1 ≡ false) → eqb (min n 2) 1 ≡ eqb n 1
+    go (inl p) = let e : n ≡ 1 = eqb-true n 1 p in eq-eqb (min n 2) 1 (omega arith) ∙ sym p
+    go (inr p) =
+        ne-eqb (min n 2) 1 (λ (e : min n 2 ≡ 1). eqb-false n 1 p (omega arith)) ∙ sym p
+
+-- the table's bad entries are the bad pairs
+pub counted-pairs :
+    (v k b : ℕ) (d table : List ℕ) → 1 ≤ v → Counted v k b d table → b ≡ bOf v k
+    → lowest (numberBad v table) (v * v) ≡ lowest (pairBad v k d) (v * v)
+unfolding pairBad entryBad
+counted-pairs v k b d table h r e =
+    lowest-same (numberBad v table) (pairBad v k d) (v * v)
+    (λ (m : ℕ) (q : m < v * v). go m (bool-either (ltb (m / v) (m % v))))
+  where
+    go : (m : ℕ) → (ltb (m / v) (m % v) ≡ true) ⊎ (ltb (m / v) (m % v) ≡ false) → numberBad v table m ≡ pairBad v k d m
+    go m (inl p) =
+        let t : getD table (m / v * v + m % v) 0 ≡ min (rowsWith k b d (m / v) (m % v)) 2 = r .each (m / v) (m % v) (ltb-true (m / v) (m % v) p) (mod-lt m h) in
+        rw (t, min-one, e)
+    go m (inr p) = rw p

@@ -1,4 +1,11 @@
+use Prim.Native.Nat.{ℕ}
+use mathlib.Core.Path.{sym, _∙_}
+use native.Mathlib.Nat.{mul-le-mul}
+use native.Mathlib.Omega.{arith}
+use lib.ListN.{length-replicate}
 use borrow.Author.Needs.{needs}
+use Rattle.checking.proofs.Entries.{counted-pairs}
+use Rattle.checking.proofs.Marks.{counted-none}
 use Rattle.checking.proofs.pairs.first_bad_pair.Statement.{statement}
 use Rattle.checking.proofs.pairs.first_bad_pair.Tie as tie
 use Rattle.checking.proofs.pairs.first_bad_pair.Reads as reads
@@ -12,19 +19,25 @@ slice-aggregate-mark-rows c = search needs
 
 -- src/pairs.rt:98:5
 mark-rows-requires : tie.Need-mark-rows-requires
-mark-rows-requires c κs = search needs
+mark-rows-requires c κs =
+    let p = c .before .before .pre in
+    let l = p .0 .rows .limits in
+    (p .0, counted-none _ _ _ 8281 (omega (arith, mul-le-mul (l .v-high) (l .v-high))))
 
 -- src/pairs.rt:99:18
 slice-aggregate-first-bad-in : tie.Need-slice-aggregate-first-bad-in
-slice-aggregate-first-bad-in c = search needs
+slice-aggregate-first-bad-in c = sym (c .before .before .mark-rows .kept .0 ∙ length-replicate {A = ℕ} 8281 0)
 
 -- src/pairs.rt:99:5
 first-bad-in-requires : tie.Need-first-bad-in-requires
-first-bad-in-requires c κs = search needs
+first-bad-in-requires c κs = c .before .before .mark-rows .ensures .room
 
 -- src/pairs.rt:93:1
 returns : tie.Need-returns
-returns c = search needs
+returns c =
+    let p = c .before .before .before .before .before .before .pre in
+    c .first-bad-in .ensures
+    ∙ counted-pairs _ _ _ _ _ (omega (arith, p .0 .rows .limits)) (c .before .before .before .mark-rows .ensures) (p .1)
 
 pub first-bad-pair-spec : {M : Type 1} → statement M
 first-bad-pair-spec =
