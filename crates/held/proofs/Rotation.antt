@@ -1,19 +1,20 @@
 -- "Row i is the set with i added to each member modulo v, sorted upwards": of an ascending set the members that reach v come
 -- first, less v, and then the others. Assumes nothing.
-use Prim.Native.Nat.{ℕ, _+_, _-_, _%_, _<_, _≤_}
-use mathlib.Core.Path.{_≡_, sym, ap, _∙_}
+use Prim.Native.Nat.{ℕ, _+_, _-_, _*_, _%_, _<_, _≤_}
+use mathlib.Core.Path.{_≡_, sym, ap, ap₂, _∙_}
 use mathlib.Core.Bool.{Bool, true, false, cond}
 use mathlib.Core.List.{List}
 use native.Mathlib.Nat.{mod-eq-of-lt, mod-eq-sub-mod}
 use native.Mathlib.Omega.{arith}
 use native.Mathlib.Decide.{decLt}
+use lib.Arith.{digits-div, digits-mod}
 use lib.ListN.{length, getD}
 use lib.Dec.{ltb, leb, eqb}
 use borrow.Author.Tests.{lt-ltb, le-ltb, le-leb, lt-leb, leb-true, leb-false, eq-eqb, eqb-true}
 use Rattle.counting.specs.Counting.{lowest}
 use Rattle.counting.proofs.Laws.{lowest-is, lowest-none, lowest-le, lowest-holds, lowest-before, any-true, any-witness}
 use Rattle.held.specs.Held.{shifted, heldGroup}
-use Rattle.held.specs.Developed.{Developable, firstPast}
+use Rattle.held.specs.Developed.{Developable, firstPast, developed}
 use Rattle.held.proofs.Ascending.{Listed, ascends-far, ascends-le, listed-nth}
 
 -- a number below 2v, modulo v
@@ -22,6 +23,10 @@ mod-low n v h = mod-eq-of-lt h
 
 pub mod-high : (n v : ℕ) → v ≤ n → n < v + v → n % v ≡ n - v
 mod-high n v h q = mod-eq-sub-mod h ∙ mod-eq-of-lt (omega arith)
+
+-- entry l of row i
+pub developed-at : (v : ℕ) (s : List ℕ) (i l : ℕ) → l < length s → developed v s (i * length s + l) ≡ heldGroup v s i l
+developed-at v s i l h = ap₂ (heldGroup v s) (digits-div i h) (digits-mod i h)
 
 -- a scan finds the first member that reaches v, or none
 pub past-is :

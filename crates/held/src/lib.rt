@@ -1,11 +1,11 @@
 // The held difference sets (01), and the call that fills a lent list with the design of a held v.
 ghost use mathlib.Core.Path.{_≡_};
-ghost use Prim.Native.Nat.{ℕ, _+_, _*_, _/_, _%_, _<_, _≤_};
+ghost use Prim.Native.Nat.{ℕ, _*_, _<_};
 ghost use lib.ListN.{length, take};
 ghost use Rattle.counting.specs.Lists.{listOf};
 ghost use Rattle.refusal.specs.Refusal.{verdict, kept, checkedOutcome};
 ghost use Rattle.held.specs.Held.{setFor, heldGroup, heldDesign, fillRules};
-ghost use Rattle.held.specs.Developed.{Developable, firstPast};
+ghost use Rattle.held.specs.Developed.{Developable, firstPast, developed};
 
 use refusal::Checked;
 use refusal::Refusal;
@@ -86,4 +86,43 @@ pub fn develop_row(v: u16, set: &[u16], i: u16, row: &mut [u16])
         row[l] = group_of(v, set, i, past, l);
         l += 1;
     }
+}
+
+// The design of a set, row after row.
+pub fn develop(v: u16, set: &[u16], design: &mut [u16])
+    requires { ⌜ Developable v (now set) × (length (now design) ≡ v * length (now set)) ⌝ }
+    ensures { λ r. ⌜ now (design .exit) ≡ listOf (developed v (now (set .entry))) (v * length (now (set .entry))) ⌝ }
+{
+    let mut i: u16 = 0;
+    let mut at: usize = 0;
+    while i < v {
+        let end = at + set.len();
+        develop_row(v, set, i, &mut design[at..end]);
+        at = end;
+        i += 1;
+    }
+}
+
+// "A call fills a lent list with the design of a held v" (01): refusal 1 where no set is held for v, 3 where the list's
+// length is not b·k; else the list is filled.
+pub fn fill(v: u32, design: &mut [u16]) -> Checked
+    ensures { λ r. ⌜ (checkedOutcome r ≡ verdict (fillRules v (length (now (design .entry))))) × (now (design .exit) ≡ kept (verdict (fillRules v (length (now (design .entry))))) (heldDesign v) (now (design .entry))) ⌝ }
+{
+    let held = padded_for(v);
+    let k = held.length;
+    if k == 0 {
+        return Checked::Refused(Refusal {
+            number: 1,
+            place: 0,
+        });
+    }
+    if design.len() != (v as usize) * k {
+        return Checked::Refused(Refusal {
+            number: 3,
+            place: 0,
+        });
+    }
+    let members = held.members;
+    develop(v as u16, &members[..k], design);
+    Checked::Fine
 }
