@@ -4,3 +4,4 @@ pub mod Ascending
 pub mod Rotation
 pub mod Filling
 pub mod Table
+pub mod Answers
