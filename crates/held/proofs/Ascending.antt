@@ -50,8 +50,8 @@ module _ (f : ℕ → Bool) (n k : ℕ) (r : ℕ → ℕ) (L : Listed f n k r) w
       let e : r (suc l) ≡ r l + 1 + gap = omega arith in
       let more : countBelow f (r l + 1) ≡ countBelow f (r l) + 1 = count-more f (r l) (L .passes l (omega arith)) in
       let none : countBelow (λ (i : ℕ). f (r l + 1 + i)) gap ≡ 0 =
-        count-none (λ (i : ℕ). f (r l + 1 + i)) gap
-        (λ i q. fails (r l + 1 + i) (λ m p y. apart m p (decLt l m) (omega arith) (omega arith))) in
+      count-none (λ (i : ℕ). f (r l + 1 + i)) gap
+      (λ i q. fails (r l + 1 + i) (λ m p y. apart m p (decLt l m) (omega arith) (omega arith))) in
       let before : countBelow f (r l) ≡ l = listed-count l (omega arith) in
       rw (e, count-add f (r l + 1) gap) (omega arith)
     where

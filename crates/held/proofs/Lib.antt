@@ -5,3 +5,4 @@ pub mod Rotation
 pub mod Filling
 pub mod Table
 pub mod Answers
+pub mod Difference

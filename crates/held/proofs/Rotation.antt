@@ -111,12 +111,12 @@ module _ (v : ℕ) (s : List ℕ) (D : Developable v s) (i : ℕ) (h : i < v) wh
       omega (arith, rotated-rest l (omega arith), rotated-rest (l + 1) (omega arith))
 
   -- a member of the shifted set, by its place in the set
-  member : (j x : ℕ) → j < length s → (getD s j 0 + i) % v ≡ x → shifted v s i x ≡ true
+  pub member : (j x : ℕ) → j < length s → (getD s j 0 + i) % v ≡ x → shifted v s i x ≡ true
   unfolding shifted
   member j x q e =
       any-true (λ (j : ℕ). eqb ((getD s j 0 + i) % v) x) (length s) j q (eq-eqb ((getD s j 0 + i) % v) x e)
 
-  place : (x : ℕ) → shifted v s i x ≡ true → (j : ℕ) × (j < length s) × ((getD s j 0 + i) % v ≡ x)
+  pub place : (x : ℕ) → shifted v s i x ≡ true → (j : ℕ) × (j < length s) × ((getD s j 0 + i) % v ≡ x)
   unfolding shifted
   place x e =
       let w = any-witness (λ (j : ℕ). eqb ((getD s j 0 + i) % v) x) (length s) e in
@@ -134,19 +134,17 @@ module _ (v : ℕ) (s : List ℕ) (D : Developable v s) (i : ℕ) (h : i < v) wh
       (j x : ℕ) → j < length s → (getD s j 0 + i) % v ≡ x → Dec (j < firstPast v s i) →
       (l : ℕ) × (l < length s) × (rotated v s i l ≡ x)
   find j x q e (yes y) =
-      let back : j + wrapped v s i - wrapped v s i ≡ j = omega arith in
-      (
+      let back : j + wrapped v s i - wrapped v s i ≡ j = omega arith in (
         j + wrapped v s i,
         omega (arith, past-le),
         rotated-rest (j + wrapped v s i) (omega arith) ∙ ap (λ (m : ℕ). getD s m 0 + i) back ∙ sym (stays j y) ∙ e,
       )
   find j x q e (no y) =
-      let back : firstPast v s i + (j - firstPast v s i) ≡ j = omega arith in
-      (
+      let back : firstPast v s i + (j - firstPast v s i) ≡ j = omega arith in (
         j - firstPast v s i,
         omega arith,
         rotated-first (j - firstPast v s i) (omega arith) ∙ ap (λ (m : ℕ). getD s m 0 + i - v) back
-        ∙ sym (wraps j (omega arith) q) ∙ e,
+            ∙ sym (wraps j (omega arith) q) ∙ e,
       )
 
   pub listed : Listed (shifted v s i) v (length s) (rotated v s i)
@@ -158,11 +156,13 @@ module _ (v : ℕ) (s : List ℕ) (D : Developable v s) (i : ℕ) (h : i < v) wh
         each = λ x e. let w = place x e in find (w .0) x (w .1) (w .2) (decLt (w .0) (firstPast v s i));
       }
 
+  pub group-is : (l : ℕ) → l < length s → heldGroup v s i l ≡ rotated v s i l
+  unfolding heldGroup
+  group-is l q = listed-nth (shifted v s i) v (length s) (rotated v s i) listed l q
+
   -- the l-th lowest group of row i, by the two kinds of members
   pub group-first : (l : ℕ) → l < wrapped v s i → heldGroup v s i l ≡ getD s (firstPast v s i + l) 0 + i - v
-  unfolding heldGroup
-  group-first l q = listed-nth (shifted v s i) v (length s) (rotated v s i) listed l (omega arith) ∙ rotated-first l q
+  group-first l q = group-is l (omega arith) ∙ rotated-first l q
 
   pub group-rest : (l : ℕ) → wrapped v s i ≤ l → l < length s → heldGroup v s i l ≡ getD s (l - wrapped v s i) 0 + i
-  unfolding heldGroup
-  group-rest l q p = listed-nth (shifted v s i) v (length s) (rotated v s i) listed l p ∙ rotated-rest l q
+  group-rest l q p = group-is l p ∙ rotated-rest l q

@@ -6,13 +6,14 @@ ghost use Rattle.counting.specs.Lists.{listOf};
 ghost use Rattle.refusal.specs.Refusal.{verdict, kept, checkedOutcome};
 ghost use Rattle.held.specs.Held.{setFor, heldGroup, heldDesign, fillRules};
 ghost use Rattle.held.specs.Developed.{Developable, firstPast, developed};
-
 use refusal::Checked;
 use refusal::Refusal;
 
 // 000's table 1, with 57 for its fifth v (01): v, the length of its set, and the set, padded to ten members.
 const VS: [u32; 7] = [7, 13, 21, 31, 57, 73, 91];
+
 const LENGTHS: [usize; 7] = [3, 4, 5, 6, 8, 9, 10];
+
 const SETS: [[u16; 10]; 7] = [
     [0, 1, 3, 0, 0, 0, 0, 0, 0, 0],
     [0, 1, 3, 9, 0, 0, 0, 0, 0, 0],

@@ -78,14 +78,13 @@ loop-less c = search needs
 loop-again : tie.Need-loop-again Inv-loop μ-loop
 loop-again c =
     let p = c .before .before .before .before .before .loop in
-    let a = c .before .before .before .before .before .before .before .before .args in
-    (
+    let a = c .before .before .before .before .before .before .before .before .args in (
       omega arith,
       omega (arith, add-mul (p .i) 1 (length (a .set .now))),
       c .before .design .given .1 ∙ p .inv .2,
       filled-part _ _ (p .at) (p .at + length (a .set .now)) _ _ _ _ refl
-      (λ j q. rw (p .inv .1) (sym (developed-at (a .v) (a .set .now) (p .i) j q)))
-      (c .before .before .develop-row .ensures) (p .inv .3),
+          (λ j q. rw (p .inv .1) (sym (developed-at (a .v) (a .set .now) (p .i) j q)))
+          (c .before .before .develop-row .ensures) (p .inv .3),
     )
 
 -- src/lib.rt:92:1

@@ -61,10 +61,11 @@ loop-less c = search needs
 
 -- src/lib.rt:37:5
 loop-again : tie.Need-loop-again Inv-loop μ-loop
-loop-again c =
-    (omega arith,
-      passes table _ (c .before .before .loop .i) (c .before .loop-test .taken) (c .if1 .left)
-      ∙ c .before .before .loop .inv .1)
+loop-again c = (
+  omega arith,
+  passes table _ (c .before .before .loop .i) (c .before .loop-test .taken) (c .if1 .left)
+      ∙ c .before .before .loop .inv .1,
+)
 
 -- src/lib.rt:33:1
 returns-2 : tie.Need-returns-2 Inv-loop μ-loop
