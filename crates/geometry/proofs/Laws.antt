@@ -1,12 +1,12 @@
 -- The laws of a geometry's limits and derived numbers. Assumes nothing.
-use Prim.Native.Nat.{ℕ, zero, suc, _+_, _-_, _*_, _/_, _%_, _≤_, _<_}
-use mathlib.Core.Path.{_≡_, refl, sym, ap, _∙_}
-use mathlib.Core.Bool.{Bool, true, false, not, _&&_, _||_}
+use Prim.Native.Nat.{ℕ, _-_, _*_, _%_, _≤_, _<_}
+use mathlib.Core.Path.{_≡_}
+use mathlib.Core.Bool.{true, false, _&&_, _||_}
 use mathlib.Core.Logic.{_⊎_, inl, inr}
-use native.Mathlib.Nat.{div-le-self, div-mul-le-self, mul-le-mul, mul-le-mul-left, mul-assoc, mul-add, eq-of-mul-eq-mul-right}
+use native.Mathlib.Nat.{div-le-self, div-mul-le-self, mul-le-mul, mul-le-mul-left, mul-assoc, eq-of-mul-eq-mul-right}
 use native.Mathlib.Omega.{arith}
 use lib.Dec.{ltb, leb, eqb}
-use borrow.Author.Tests.{ltb-false, le-ltb, leb-true, eqb-true, not-true, le-leb, eq-eqb}
+use borrow.Author.Tests.{ltb-false, le-ltb, leb-true, eqb-true, le-leb, eq-eqb}
 use Rattle.counting.proofs.Bools.{bool-either, bool-not-both, or-none, and-both, both-and, and-left-false, and-right-false, not-is-true, not-is-false}
 use Rattle.counting.proofs.Laws.{any-true, none-any}
 use Rattle.geometry.specs.declared.Geometry.{Geometry}
