@@ -24,7 +24,7 @@ int main(void) {
     himzolven_answer design = himzolven_check(V, K, F, LENGTH);
     himzolven_sizes_answer sizes = himzolven_sizes(V, K, G, U, F, LENGTH);
     if (design.refusal != HIMZOLVEN_ACCEPTED || sizes.refusal != HIMZOLVEN_ACCEPTED) {
-        printf("refused %" PRIu32 " place %" PRIu32 "\n", design.refusal, design.place);
+        printf("refused %" PRIu32 " place %" PRIu32 "\n", sizes.refusal, sizes.place);
         return 1;
     }
     printf("F: %" PRIu32 " disks of %" PRIu32 " units, %" PRIu32 " user units, %" PRIu32 " sets\n", sizes.disks, sizes.units, sizes.user_units, sizes.sets);
@@ -45,6 +45,7 @@ int main(void) {
     uint16_t held[21];
     himzolven_answer filled = himzolven_fill(7, held, 21);
     himzolven_answer none = himzolven_fill(8, NULL, 0);
-    printf("held 7: %" PRIu32 ", first row %u %u %u; held 8: refused %" PRIu32 "\n", filled.refusal, (unsigned)held[0], (unsigned)held[1], (unsigned)held[2], none.refusal);
+    himzolven_answer empty = himzolven_check(7, 3, NULL, 0);
+    printf("held 7: %" PRIu32 ", first row %u %u %u; held 8: refused %" PRIu32 "; empty list: refused %" PRIu32 "\n", filled.refusal, (unsigned)held[0], (unsigned)held[1], (unsigned)held[2], none.refusal, empty.refusal);
     return 0;
 }

@@ -1,6 +1,7 @@
 /* Himzolven: the OI-RAID layout (RAID5 across groups of disks and RAID5 inside each group), proved to the byte.
  *
- * Link with target/staticlib/libhost.a. Every function here is proved to answer as docs/REVIEW.md states it, for every input.
+ * Link with target/staticlib/libhost.a. The Rattle source of every function here is proved to answer as docs/REVIEW.md states
+ * it, for every input. The compiler's back end, this header and the archive are tested, not proved.
  *
  * A design is a list of 16-bit group numbers, row after row, of b*k numbers. v groups, k groups in a row (a "tuple"),
  * g disks in a group, u bytes in a unit. Disk d is in group d/g, column d%g. Unit = part*g + row.
@@ -19,8 +20,9 @@
  * Aliasing. himzolven_fill is lent its list alone: no other thread may read or write it during the call. The other functions
  * only read their list; any number of calls may share one.
  *
- * Threads. No function has state of its own: each may be called from any thread, from signal handlers and recursively, as
- * long as the lists obey the rule above. No function allocates, blocks, prints or fails to return.
+ * Threads and stack. No function has state of its own: each may be called from any thread, and several at a time, as long as
+ * the lists obey the rule above. No function allocates, blocks, prints or fails to return. Each needs less than 10 KB of stack
+ * (docs/SPEED.md has the measure).
  */
 #ifndef HIMZOLVEN_H
 #define HIMZOLVEN_H

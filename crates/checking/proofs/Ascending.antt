@@ -90,8 +90,8 @@ good-rising v k d t h =
     let p = or-none (anyBelow (high v k d t) k) (anyBelow (falls k d t) (k - 1)) h in
     record {
       step =
-        λ (l : ℕ) (q : l + 1 < k).
-        leb-false (groupAt k d t (l + 1)) (groupAt k d t l) (any-none (falls k d t) (k - 1) (p .1) l (omega arith));
+          λ (l : ℕ) (q : l + 1 < k).
+          leb-false (groupAt k d t (l + 1)) (groupAt k d t l) (any-none (falls k d t) (k - 1) (p .1) l (omega arith));
     }
 
 pub good-below : (v k : ℕ) (d : List ℕ) (t l : ℕ) → rowBad v k d t ≡ false → l < k → groupAt k d t l < v

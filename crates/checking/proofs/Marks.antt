@@ -24,9 +24,10 @@ use Rattle.checking.proofs.Ascending.{Rising, rising-lt, rising-le, goo
 
 -- two pairs with one number are one pair
 pub same-number : (v a c x y : ℕ) → c < v → y < v → a * v + c ≡ x * v + y → (a ≡ x) × (c ≡ y)
-same-number v a c x y h q e =
-    (sym (digits-div a h) ∙ ap (λ (n : ℕ). n / v) e ∙ digits-div x q,
-    sym (digits-mod a h) ∙ ap (λ (n : ℕ). n % v) e ∙ digits-mod x q)
+same-number v a c x y h q e = (
+  sym (digits-div a h) ∙ ap (λ (n : ℕ). n / v) e ∙ digits-div x q,
+  sym (digits-mod a h) ∙ ap (λ (n : ℕ). n % v) e ∙ digits-mod x q,
+)
 
 -- the pair x<y is counted up
 pub mark-one :
@@ -79,8 +80,8 @@ mark-then v f g h old mid new r s j =
     record {
       size = s .size ∙ r .size;
       each =
-        λ (a c : ℕ) (p : a < c) (q : c < v).
-        s .each a c p q ∙ ap (markedIf (g a c)) (r .each a c p q) ∙ joined-marked (f a c) (g a c) (h a c) _ (j a c);
+          λ (a c : ℕ) (p : a < c) (q : c < v).
+          s .each a c p q ∙ ap (markedIf (g a c)) (r .each a c p q) ∙ joined-marked (f a c) (g a c) (h a c) _ (j a c);
     }
 
 pub mark-none : (v : ℕ) (f : ℕ → ℕ → Bool) (table : List ℕ) → ((a c : ℕ) → a < c → f a c ≡ false) → Marked v f table table
@@ -112,20 +113,23 @@ among-joined k d t m z r h = go (bool-either (eqb (groupAt k d t m) z)) (bool-ei
         → (among k d t m z ≡ true) ⊎ (among k d t m z ≡ false)
         → Joined (among k d t m z) (eqb (groupAt k d t m) z) (among k d t (m + 1) z)
     go (inl p) w =
-        inl
-        (none-any (λ (l : ℕ). eqb (groupAt k d t l) z) m (earlier p),
-        any-true (λ (l : ℕ). eqb (groupAt k d t l) z) (m + 1) m (omega arith) p ∙ sym p)
+        inl (
+          none-any (λ (l : ℕ). eqb (groupAt k d t l) z) m (earlier p),
+          any-true (λ (l : ℕ). eqb (groupAt k d t l) z) (m + 1) m (omega arith) p ∙ sym p,
+        )
     go (inr p) (inl w) =
         let x = any-witness (λ (l : ℕ). eqb (groupAt k d t l) z) m w in
-        inr
-        (p,
-        any-true (λ (l : ℕ). eqb (groupAt k d t l) z) (m + 1) (x .0) (omega (arith, x .1)) (x .2) ∙ sym w)
+        inr (
+          p,
+          any-true (λ (l : ℕ). eqb (groupAt k d t l) z) (m + 1) (x .0) (omega (arith, x .1)) (x .2) ∙ sym w,
+        )
     go (inr p) (inr w) =
-        inr
-        (p,
-        none-any (λ (l : ℕ). eqb (groupAt k d t l) z) (m + 1)
-        (below-more _ _ (any-none (λ (l : ℕ). eqb (groupAt k d t l) z) m w) p)
-        ∙ sym w)
+        inr (
+          p,
+          none-any (λ (l : ℕ). eqb (groupAt k d t l) z) (m + 1)
+              (below-more _ _ (any-none (λ (l : ℕ). eqb (groupAt k d t l) z) m w) p)
+              ∙ sym w,
+        )
 
 -- the pairs of the group at position l with those behind it up to position m
 pub record MarkedTo (v k : ℕ) (d : List ℕ) (t l base m : ℕ) (old new : List ℕ) : Type 0 where
@@ -274,11 +278,11 @@ counted-next v k d t old new r s =
     record {
       room = omega (arith, r .room, s .size);
       each =
-        λ (a c : ℕ) (p : a < c) (q : c < v).
-        s .each a c p q
-        ∙ ap (markedIf (names k d a t && names k d c t)) (r .each a c p q)
-        ∙ counted-step (names k d a t && names k d c t) (rowsWith k t d a c)
-        ∙ sym (rw (add-one t, count-suc (λ (t : ℕ). names k d a t && names k d c t) t));
+          λ (a c : ℕ) (p : a < c) (q : c < v).
+          s .each a c p q
+          ∙ ap (markedIf (names k d a t && names k d c t)) (r .each a c p q)
+          ∙ counted-step (names k d a t && names k d c t) (rowsWith k t d a c)
+          ∙ sym (rw (add-one t, count-suc (λ (t : ℕ). names k d a t && names k d c t) t));
     }
 
 pub counted-row :
@@ -303,8 +307,8 @@ counted-none v k d n h =
     record {
       room = rw length-replicate h;
       each =
-        λ (a c : ℕ) (p : a < c) (q : c < v).
-        let r : a < v = omega arith in
-        let w : a * v + c < n = omega (arith, digits-lt r q) in
-        getD-replicate n (a * v + c) 0 0 w ∙ sym (rw (count-zero (λ (t : ℕ). names k d a t && names k d c t)));
+          λ (a c : ℕ) (p : a < c) (q : c < v).
+          let r : a < v = omega arith in
+          let w : a * v + c < n = omega (arith, digits-lt r q) in
+          getD-replicate n (a * v + c) 0 0 w ∙ sym (rw (count-zero (λ (t : ℕ). names k d a t && names k d c t)));
     }

@@ -1,4 +1,4 @@
--- What "how many", "the lowest" and "the p-th, from 0" mean over the numbers below n: the words in which 01 names
+-- How many numbers below n pass a test, which is the lowest, and which is the p-th, from 0: the words in which 01 names
 -- places, parts and tuples. Assumes nothing.
 use Prim.Native.Nat.{ℕ, zero, suc}
 use mathlib.Core.Bool.{Bool, true, false, _&&_}

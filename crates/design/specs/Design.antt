@@ -1,6 +1,6 @@
 -- A design: 000, section 3.3 with lambda = 1, as 01, "Design and geometry", has it. "A design has v groups and b rows
--- ("tuples") of k group numbers. Every pair of groups stands together in exactly one row. Rows ascend strictly. The design
--- is a lent list of 16-bit numbers, row after row". Assumes nothing.
+-- ("tuples") of k group numbers. Every pair of groups stands together in exactly one row .. Rows ascend strictly." "The
+-- design is a lent list of 16-bit numbers, row after row, of length exactly b·k." Assumes nothing.
 use Prim.Native.Nat.{ℕ, _+_, _*_, _<_}
 use mathlib.Core.Path.{_≡_}
 use mathlib.Core.Bool.{Bool}

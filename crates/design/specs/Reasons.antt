@@ -29,7 +29,7 @@ BadRow v k d t =
 abbrev pub FirstBadRow : ℕ → ℕ → List ℕ → ℕ → Type 0
 FirstBadRow v k d p = (p < bOf v k) × BadRow v k d p × ((q : ℕ) → q < p → BadRow v k d q → ⊥)
 
--- a<c is "a pair not in exactly one row"
+-- a<c is such a pair: "a pair a<b not in exactly one row"
 abbrev pub BadPair : ℕ → ℕ → List ℕ → ℕ → ℕ → Type 0
 BadPair v k d a c = (a < c) × (c < v) × (OneRow k (bOf v k) d a c → ⊥)
 

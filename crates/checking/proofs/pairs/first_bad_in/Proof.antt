@@ -36,7 +36,7 @@ add-result c = omega (arith, digits-lt (c .before .before .loop-test .taken) (c 
 
 -- src/pairs.rt:73:13
 returns : tie.Need-returns Inv-loop μ-loop
-returns c = 
+returns c =
     line-found _ _ _ _ (c .before .before .before .loop .inv .1) (c .before .before .loop-test .taken) (c .before .first-bad-with .ensures) (c .if1 .taken)
 
 -- src/pairs.rt:75:9
@@ -49,7 +49,7 @@ loop-less c = search needs
 
 -- src/pairs.rt:70:5
 loop-again : tie.Need-loop-again Inv-loop μ-loop
-loop-again c = 
+loop-again c =
     (omega arith, scanned-lines _ _ _ _ (c .before .before .before .loop .inv .1) (c .before .before .loop-test .taken) (c .before .first-bad-with .ensures) (c .if1 .left))
 
 -- src/pairs.rt:77:5
@@ -58,7 +58,7 @@ mul-result-2 c = search needs
 
 -- src/pairs.rt:65:1
 returns-2 : tie.Need-returns-2 Inv-loop μ-loop
-returns-2 c = 
+returns-2 c =
     scanned-all _ _ _ (c .before .loop .inv .1) (mul-le-mul-right _ (c .loop-test .left))
 
 pub first-bad-in-spec : {M : Type 1} → statement M

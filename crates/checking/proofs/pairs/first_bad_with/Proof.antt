@@ -52,7 +52,7 @@ loop-less c = search needs
 
 -- src/pairs.rt:55:5
 loop-again : tie.Need-loop-again Inv-loop μ-loop
-loop-again c = 
+loop-again c =
     let i = c .before .before .before .loop .inv in
     (scanned-next _ _ _ (i .0) (c .before .before .loop-test .taken) (entry-good _ _ _ _ (c .if1 .left)), omega arith)
 

@@ -31,7 +31,7 @@ loop-less c = search needs
 
 -- src/pairs.rt:42:5
 loop-again : tie.Need-loop-again Inv-loop μ-loop
-loop-again c = 
+loop-again c =
     row-to-next _ _ _ _ _ _ _ _ (c .before .before .before .before .before .loop .inv) (c .before .before .before .before .loop-test .taken) (c .before .before .mark-with .ensures)
 
 -- src/pairs.rt:37:1

@@ -35,7 +35,7 @@ loop-less c = search needs
 
 -- src/pairs.rt:54:5
 loop-again : tie.Need-loop-again Inv-loop μ-loop
-loop-again c = 
+loop-again c =
     let m = c .before .before .mark-row .ensures in
     let i = c .before .before .before .before .before .loop .inv in
     (omega arith, m .size ∙ i .1, counted-next _ _ _ _ _ _ (i .2) m)

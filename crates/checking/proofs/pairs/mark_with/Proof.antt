@@ -40,7 +40,7 @@ wide-requires c κs = search needs
 -- src/pairs.rt:27:16
 mul-base : tie.Need-mul-base Inv-loop μ-loop
 unfolding groupAt
-mul-base c = 
+mul-base c =
     let p = c .before .before .before .before .pre in
     omega (arith, line-within _ _ _ _ _ _ _ (p .0) (p .1) (c .wide .ensures))
 
@@ -51,7 +51,7 @@ add-m c = search needs
 -- src/pairs.rt:29:5
 loop-holds : tie.Need-loop-holds Inv-loop μ-loop
 unfolding groupAt
-loop-holds c = 
+loop-holds c =
     let p = c .before .before .before .before .pre in
     marked-to-none _ _ _ _ _ _ _ (p .0) (p .1) (c .wide .ensures)
 
@@ -104,7 +104,7 @@ loop-less c = search needs
 -- src/pairs.rt:29:5
 loop-again : tie.Need-loop-again Inv-loop μ-loop
 unfolding groupAt
-loop-again c = 
+loop-again c =
     marked-to-next _ _ _ _ _ _ _ _ _ _ _ (c .before .before .before .before .before .loop .inv) (c .before .before .before .before .loop-test .taken) (c .before .before .wide2 .ensures) (c .one-more .ensures)
 
 -- src/pairs.rt:22:1
