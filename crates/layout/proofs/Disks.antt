@@ -1,70 +1,78 @@
--- Which cells share a disk: a tuple's regions lie in different groups, and a diagonal meets each column once.
-use Prim.Native.Nat.{ℕ, _+_, _-_, _*_, _<_, _≤_}
+-- Which cells share a disk: the regions of a tuple lie in different groups, and a diagonal meets each column once.
+use Prim.Native.Nat.{ℕ, _-_, _<_}
 use mathlib.Core.Path.{_≡_, _∙_, ap, refl, sym}
 use mathlib.Core.List.{List}
 use native.Mathlib.Omega.{arith}
 use Rattle.geometry.specs.declared.Geometry.{Geometry}
 use Rattle.geometry.specs.declared.Disk.{Disk}
-use Rattle.geometry.specs.Geometry.{Sound, tuplesOf, userUnitsOf}
+use Rattle.geometry.specs.Geometry.{tuplesOf, userUnitsOf}
 use Rattle.design.specs.Design.{groupAt, Laid}
 use Rattle.design.proofs.Rows.{row-once}
 use Rattle.layout.specs.declared.Cell.{Cell}
-use Rattle.layout.specs.declared.Place.{Place}
-use Rattle.layout.specs.Cells.{cell, labelColumn, diagonalColumn, parityPosition, dataPosition}
-use Rattle.layout.specs.Sets.{outerMember, innerMember, innerParity, InOuter, InInner}
-use Rattle.layout.specs.Roles.{innerOf, userCell, userOuter, userTuple, userRegion, userRow, userColumn}
-use Rattle.layout.specs.Places.{placeOf, groupOf, fourOf}
-use Rattle.layout.specs.Theorems.{diagonalOf, FourApart}
+use Rattle.layout.specs.Sets.{outerMember, innerMember, InOuter, InInner}
 use Rattle.layout.specs.Ranges.{CellIn, OuterIn, InnerIn, UserIn}
-use Rattle.layout.proofs.Turns.{diagonalColumn-lt, diagonalAt-lt, diagonal-once, column-of-diagonal, parity-column}
-use Rattle.layout.proofs.Numbering.{digits-only, digits-in}
-use Rattle.layout.proofs.Roles.{user-cell-in, outer-cell-in, inner-cell-in}
-use Rattle.layout.proofs.Sets.{diagonal-in, on-diagonal, parity-in, outer-member-in, inner-member-in}
+use Rattle.layout.specs.Roles.{userTuple, userRegion, userRow, userColumn, userCell, userOuter, innerOf}
+use Rattle.layout.specs.Places.{groupOf, placeOf, fourOf}
+use Rattle.layout.specs.Theorems.{diagonalOf, FourApart}
+use Rattle.layout.proofs.Turns.{diagonal-once}
 use Rattle.layout.proofs.Positions.{dataPosition-other}
+use Rattle.layout.proofs.Numbering.{digits-only, digits-in}
+use Rattle.layout.proofs.Sets.{outer-member-in, inner-member-in, diagonal-in, on-diagonal, parity-in}
+use Rattle.layout.proofs.Roles.{user-cell-in, outer-cell-in, inner-cell-in}
 
 -- the disk on which a cell lies
 abbrev pub diskOf : Geometry → List ℕ → Cell → Disk
 diskOf G d x = placeOf G d x .disk
 
 -- one disk is one group and one column
-disk-only : (G : Geometry) (d : List ℕ) (x y : Cell) → x .column < G .g → y .column < G .g → diskOf G d x ≡ diskOf G d y
-    → (groupOf G d x ≡ groupOf G d y) × (x .column ≡ y .column)
+disk-only :
+    (G : Geometry) (d : List ℕ) (x y : Cell) → CellIn G x → CellIn G y → diskOf G d x ≡ diskOf G d y →
+    (groupOf G d x ≡ groupOf G d y) × (x .column ≡ y .column)
 unfolding placeOf
-disk-only G d x y h l e = digits-only (G .g) (groupOf G d x) (x .column) (groupOf G d y) (y .column) h l (ap (λ (z : Disk). z .0) e)
+disk-only G d x y h l e =
+    digits-only (G .g) (groupOf G d x) (x .column) (groupOf G d y) (y .column) (h .column) (l .column)
+    (ap (λ (z : Disk). z .0) e)
 
 module _ (G : Geometry) (d : List ℕ) (L : Laid G d) where
-  -- the regions of a tuple lie in different groups: cells of one tuple that share a disk have one position
-  pub one-position : (x y : Cell) → CellIn G x → CellIn G y → x .tuple .0 ≡ y .tuple .0 → diskOf G d x ≡ diskOf G d y → x .position ≡ y .position
+  -- cells of one tuple that share a disk stand at one position
+  pub one-position :
+      (x y : Cell) → CellIn G x → CellIn G y → x .tuple .0 ≡ y .tuple .0 → diskOf G d x ≡ diskOf G d y →
+      x .position ≡ y .position
   unfolding groupOf
   one-position x y h q t e =
-      row-once (G .v) (G .k) (tuplesOf G) d (L .design) (x .tuple .0) (h .tuple) (x .position) (y .position) (h .position) (q .position)
-      (disk-only G d x y (h .column) (q .column) e .0 ∙ ap (λ (n : ℕ). groupAt (G .k) d n (y .position)) (sym t))
+      row-once (G .v) (G .k) (tuplesOf G) d (L .design) (x .tuple .0) (h .tuple) (x .position) (y .position)
+      (h .position) (q .position)
+      (disk-only G d x y h q e .0 ∙ ap (λ (n : ℕ). groupAt (G .k) d n (y .position)) (sym t))
 
-  pub outer-apart : (t i c : ℕ) → OuterIn G t i c → (x y : Cell) → InOuter G t i c x → InOuter G t i c y
-      → diskOf G d x ≡ diskOf G d y → x ≡ y
+  -- no set holds two units of one disk
+  pub outer-apart :
+      (t i c : ℕ) → OuterIn G t i c → (x y : Cell) → InOuter G t i c x → InOuter G t i c y →
+      diskOf G d x ≡ diskOf G d y → x ≡ y
   outer-apart t i c h x y p q e =
+      let a : CellIn G (outerMember G t i c (p .0)) = outer-member-in G (L .sound) t i c (p .0) h (p .1) in
+      let b : CellIn G (outerMember G t i c (q .0)) = outer-member-in G (L .sound) t i c (q .0) h (q .1) in
       let same : p .0 ≡ q .0 =
-      one-position (outerMember G t i c (p .0)) (outerMember G t i c (q .0)) (outer-member-in G (L .sound) t i c (p .0) h (p .1)) (outer-member-in G (L .sound) t i c (q .0) h (q .1)) refl
+      one-position (outerMember G t i c (p .0)) (outerMember G t i c (q .0)) a b refl
       (sym (ap (diskOf G d) (p .2)) ∙ e ∙ ap (diskOf G d) (q .2)) in
       p .2 ∙ ap (outerMember G t i c) same ∙ sym (q .2)
 
-  pub inner-apart : (t l j : ℕ) → InnerIn G t l j → (x y : Cell) → InInner G t l j x → InInner G t l j y
-      → diskOf G d x ≡ diskOf G d y → x ≡ y
+  pub inner-apart :
+      (t l j : ℕ) → InnerIn G t l j → (x y : Cell) → InInner G t l j x → InInner G t l j y →
+      diskOf G d x ≡ diskOf G d y → x ≡ y
   inner-apart t l j h x y p q e =
+      let a : CellIn G (innerMember G t l j (p .0)) = inner-member-in G (L .sound) t l j (p .0) h (p .1) in
+      let b : CellIn G (innerMember G t l j (q .0)) = inner-member-in G (L .sound) t l j (q .0) h (q .1) in
+      let both = disk-only G d _ _ a b (sym (ap (diskOf G d) (p .2)) ∙ e ∙ ap (diskOf G d) (q .2)) in
       let same : p .0 ≡ q .0 =
-      diagonal-once (G .g) j (p .0) (q .0) (omega (arith, h .diagonal)) (p .1) (q .1)
-      (disk-only G d (innerMember G t l j (p .0)) (innerMember G t l j (q .0)) (inner-member-in G (L .sound) t l j (p .0) h (p .1) .column) (inner-member-in G (L .sound) t l j (q .0) h (q .1) .column)
-      (sym (ap (diskOf G d) (p .2)) ∙ e ∙ ap (diskOf G d) (q .2)) .1) in
+      diagonal-once (G .g) j (p .0) (q .0) (omega (arith, h .diagonal)) (p .1) (q .1) (both .1) in
       p .2 ∙ ap (innerMember G t l j) same ∙ sym (q .2)
 
   -- the parity of a cell's diagonal is a cell
   pub inner-of-in : (x : Cell) → CellIn G x → CellIn G (innerOf G x)
   unfolding innerOf
-  inner-of-in x h =
-      let i : InnerIn G (x .tuple .0) (x .position) (diagonalOf G x) = diagonal-in G (L .sound) x h in
-      inner-cell-in G (L .sound) (x .tuple .0) (x .position) (diagonalOf G x) i
+  inner-of-in x h = inner-cell-in G (L .sound) _ _ _ (diagonal-in G (L .sound) x h)
 
-  -- a cell and the parity of its diagonal, unless it is the parity
+  -- on another disk than the cell, unless they are one
   parity-apart : (x : Cell) → CellIn G x → x .row < G .g - 1 → diskOf G d x ≡ diskOf G d (innerOf G x) → ⊥
   unfolding innerOf
   parity-apart x h r e =
@@ -74,7 +82,6 @@ module _ (G : Geometry) (d : List ℕ) (L : Laid G d) where
       (parity-in G (L .sound) (x .tuple .0) (x .position) (diagonalOf G x) (i .diagonal)) e in
       omega (arith, ap (λ (y : Cell). y .row) same)
 
-  -- "The four disks": of user unit n, of its outer parity, and of the inner parities of both
   pub four-apart : (n : ℕ) → n < userUnitsOf G → FourApart (fourOf G d n)
   unfolding fourOf userCell userOuter innerOf
   four-apart n h =
@@ -84,7 +91,8 @@ module _ (G : Geometry) (d : List ℕ) (L : Laid G d) where
         user-both = λ e. other (one-position x (innerOf G y) hx (inner-of-in y hy) refl e);
         outer-inner = λ e. other (one-position (innerOf G x) y (inner-of-in x hx) hy refl (sym e));
         outer-both = parity-apart y hy (u .label .row);
-        inner-both = λ e. other (one-position (innerOf G x) (innerOf G y) (inner-of-in x hx) (inner-of-in y hy) refl e);
+        inner-both = λ e.
+            other (one-position (innerOf G x) (innerOf G y) (inner-of-in x hx) (inner-of-in y hy) refl e);
       }
     where
       x : Cell

@@ -1,9 +1,10 @@
+pub mod Examples
 pub mod Turns
 pub mod Positions
 pub mod Numbering
-pub mod Roles
 pub mod Sets
 pub mod SetNumbers
+pub mod Roles
 pub mod Places
 pub mod Disks
 pub mod Theorems

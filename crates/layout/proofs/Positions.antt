@@ -1,6 +1,6 @@
 -- The data regions of a tuple, counted over the positions other than the parity's, wherever that stands.
-use Prim.Native.Nat.{ℕ, suc, pred, _+_, _-_, _<_, _≤_}
-use mathlib.Core.Path.{_≡_, _∙_, ap, refl}
+use Prim.Native.Nat.{ℕ, suc, pred, _-_, _<_, _≤_}
+use mathlib.Core.Path.{_≡_, refl}
 use mathlib.Core.Bool.{Bool, true, false, cond}
 use native.Mathlib.Omega.{arith}
 use lib.Dec.{ltb}

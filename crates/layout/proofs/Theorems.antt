@@ -1,28 +1,27 @@
 -- The theorems of specs/Theorems.antt, in its order. Assumes nothing.
-use Prim.Native.Nat.{ℕ, _+_, _-_, _*_, _%_, _<_, _≤_}
+use Prim.Native.Nat.{ℕ}
 use mathlib.Core.Path.{_≡_, _∙_, ap, refl, sym}
 use mathlib.Core.List.{List}
 use native.Mathlib.Omega.{arith}
 use Rattle.geometry.specs.declared.Geometry.{Geometry}
 use Rattle.geometry.specs.declared.UserUnit.{UserUnit}
-use Rattle.geometry.specs.Geometry.{Sound, userUnitsOf}
-use Rattle.design.specs.Design.{groupAt, names, Laid}
+use Rattle.design.specs.Design.{Laid}
 use Rattle.layout.specs.declared.Cell.{Cell}
 use Rattle.layout.specs.declared.Place.{Place}
-use Rattle.layout.specs.declared.Role.{Role}
-use Rattle.layout.specs.Cells.{cell, labelColumn, diagonalAt, parityPosition}
-use Rattle.layout.specs.Sets.{InOuter, outerMember}
-use Rattle.layout.specs.Roles.{userNumber, userTuple, userRegion, userRow, userColumn, userCell, userOuter, innerOf, user, outer, inner, roleOf, cellOf}
-use Rattle.layout.specs.Places.{place, groupOf, partOf, placeOf, cellAt, roleAt, fourOf}
-use Rattle.layout.specs.Ranges.{CellIn, PlaceIn, RoleIn, OuterIn, InnerIn, UserIn}
+use Rattle.layout.specs.Cells.{labelColumn, parityPosition}
+use Rattle.layout.specs.Sets.{outerMember}
+use Rattle.layout.specs.Roles.{userNumber, userCell, userOuter, innerOf, user, inner, roleOf, cellOf}
+use Rattle.layout.specs.Places.{groupOf, partOf, placeOf, cellAt, roleAt, fourOf}
+use Rattle.layout.specs.Ranges.{CellIn, PlaceIn}
 use Rattle.layout.specs.Theorems
+use Rattle.layout.specs.Theorems.{diagonalOf, placeRole}
 use Rattle.layout.proofs.Turns.{diagonalColumn-lt, row-of-column, parity-column}
 use Rattle.layout.proofs.Positions.{data-position}
 use Rattle.layout.proofs.Numbering as numbering
-use Rattle.layout.proofs.Roles as roles
-use Rattle.layout.proofs.Places as places
 use Rattle.layout.proofs.Sets as sets
 use Rattle.layout.proofs.SetNumbers as numbers
+use Rattle.layout.proofs.Roles as roles
+use Rattle.layout.proofs.Places as places
 use Rattle.layout.proofs.Disks as disks
 
 pub the-cell-of-a-user-unit : Theorems.The-cell-of-a-user-unit
@@ -39,7 +38,8 @@ unfolding cellOf
 the-cell-of-an-inner-parity G t l j = refl
 
 pub the-columns-of-a-diagonal : Theorems.The-columns-of-a-diagonal
-the-columns-of-a-diagonal g i j h q = record { low = diagonalColumn-lt g j i (omega arith); turned = row-of-column g j i (omega arith) h }
+the-columns-of-a-diagonal g i j h q =
+    record { low = diagonalColumn-lt g j i (omega arith); turned = row-of-column g j i (omega arith) h }
 
 pub the-parity-is-on-its-diagonal : Theorems.The-parity-is-on-its-diagonal
 the-parity-is-on-its-diagonal = parity-column
@@ -60,38 +60,48 @@ user-units-are-numbered G s =
       column = numbering.column-of-number G;
     }
 
+module _ (G : Geometry) (d : List ℕ) (L : Laid G d) where
+  -- the way back of a cell's place is the cell's role
+  role-of-place : (x : Cell) → CellIn G x → placeRole G d (placeOf G d x) ≡ roleOf G x
+  unfolding roleAt
+  role-of-place x h = ap (roleOf G) (places.cell-at-place G d L x h)
+
+  -- the cell at a place is a cell
+  at-in : (p : Place) → PlaceIn G p → CellIn G (cellAt G d (p .disk .0) (p .unit .0))
+  at-in p h = places.cell-at-in G d L (p .disk .0) (p .unit .0) (h .disk) (h .unit)
+
+  -- the way back of the place of a cell's inner parity is the inner parity of the cell's diagonal
+  role-of-inner-place :
+      (x : Cell) → CellIn G x →
+      placeRole G d (placeOf G d (innerOf G x)) ≡ inner (x .tuple .0) (x .position) (diagonalOf G x)
+  unfolding innerOf
+  role-of-inner-place x h =
+      role-of-place (innerOf G x) (disks.inner-of-in G d L x h)
+      ∙ roles.role-of-inner G (L .sound) _ _ _ (sets.diagonal-in G (L .sound) x h)
+
 pub the-way-back-is-the-inverse : Theorems.The-way-back-is-the-inverse
 unfolding roleAt
 the-way-back-is-the-inverse G d L =
     record {
       there = λ ρ h. places.place-in G d L (cellOf G ρ) (roles.cell-in G (L .sound) ρ h);
-      back = λ ρ h. ap (roleOf G) (places.cell-at-place G d L (cellOf G ρ) (roles.cell-in G (L .sound) ρ h)) ∙ roles.role-of-cell G (L .sound) ρ h;
-      role = λ p h. roles.role-in G (L .sound) (cellAt G d (p .disk .0) (p .unit .0)) (places.cell-at-in G d L (p .disk .0) (p .unit .0) (h .disk) (h .unit));
-      again = λ p h. ap (placeOf G d) (roles.cell-of-role G (L .sound) (cellAt G d (p .disk .0) (p .unit .0)) (places.cell-at-in G d L (p .disk .0) (p .unit .0) (h .disk) (h .unit))) ∙ places.place-of-cell G d L (p .disk .0) (p .unit .0) (h .disk) (h .unit);
+      back = λ ρ h.
+          role-of-place G d L (cellOf G ρ) (roles.cell-in G (L .sound) ρ h) ∙ roles.role-of-cell G (L .sound) ρ h;
+      role = λ p h. roles.role-in G (L .sound) (cellAt G d (p .disk .0) (p .unit .0)) (at-in G d L p h);
+      again = λ p h.
+          ap (placeOf G d)
+          (roles.cell-of-role G (L .sound) (cellAt G d (p .disk .0) (p .unit .0)) (at-in G d L p h))
+          ∙ places.place-of-cell G d L (p .disk .0) (p .unit .0) (h .disk) (h .unit);
     }
 
 pub each-disk-unit-has-one-role : Theorems.Each-disk-unit-has-one-role
 each-disk-unit-has-one-role G d L p h =
     let w = the-way-back-is-the-inverse G d L in
     record {
-      role = Theorems.placeRole G d p;
+      role = placeRole G d p;
       valid = w .role p h;
       here = w .again p h;
-      only = λ ρ v e. sym (w .back ρ v) ∙ ap (Theorems.placeRole G d) e;
+      only = λ ρ v e. sym (w .back ρ v) ∙ ap (placeRole G d) e;
     }
-
--- the way back of a cell's place is the cell's role
-role-of-place : (G : Geometry) (d : List ℕ) → Laid G d → (x : Cell) → CellIn G x → Theorems.placeRole G d (placeOf G d x) ≡ roleOf G x
-unfolding roleAt
-role-of-place G d L x h = ap (roleOf G) (places.cell-at-place G d L x h)
-
--- so is that of the parity of its diagonal
-role-of-inner-place : (G : Geometry) (d : List ℕ) → Laid G d → (x : Cell) → CellIn G x →
-    Theorems.placeRole G d (placeOf G d (innerOf G x)) ≡ inner (x .tuple .0) (x .position) (Theorems.diagonalOf G x)
-unfolding innerOf
-role-of-inner-place G d L x h =
-    let i : InnerIn G (x .tuple .0) (x .position) (Theorems.diagonalOf G x) = sets.diagonal-in G (L .sound) x h in
-    role-of-place G d L (innerOf G x) (roles.inner-cell-in G (L .sound) _ _ _ i) ∙ roles.role-of-inner G (L .sound) _ _ _ i
 
 pub the-roles-of-the-four-places : Theorems.The-roles-of-the-four-places
 unfolding fourOf userCell userOuter
@@ -110,7 +120,7 @@ pub no-two-user-units-share-a-place : Theorems.No-two-user-units-share-a-place
 no-two-user-units-share-a-place G d L m n h q e =
     let x = the-roles-of-the-four-places G d L m h .of-user in
     let y = the-roles-of-the-four-places G d L n q .of-user in
-    let z : user m ≡ user n = sym x ∙ ap (Theorems.placeRole G d) e ∙ y in
+    let z : user m ≡ user n = sym x ∙ ap (placeRole G d) e ∙ y in
     let w : _≡_ {A = UserUnit} (record { 0 = m }) (record { 0 = n }) = cc in
     ap (λ (o : UserUnit). o .0) w
 

@@ -4,3 +4,4 @@ pub mod Roles
 pub mod Places
 pub mod Ranges
 pub mod Theorems
+pub mod Figure

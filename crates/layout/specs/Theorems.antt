@@ -14,7 +14,8 @@ use Rattle.layout.specs.declared.Role.{Role}
 use Rattle.layout.specs.declared.Four.{Four}
 use Rattle.layout.specs.Cells.{cell, labelAt, diagonalColumn, diagonalAt, parityPosition}
 use Rattle.layout.specs.Sets.{InOuter, InInner, outerNumber, innerNumber}
-use Rattle.layout.specs.Roles.{userNumber, userTuple, userRegion, userRow, userColumn, userCell, userOuter, user, outer, inner, cellOf}
+use Rattle.layout.specs.Roles.{userNumber, userTuple, userRegion, userRow, userColumn}
+use Rattle.layout.specs.Roles.{userCell, userOuter, user, outer, inner, cellOf}
 use Rattle.layout.specs.Places.{place, placeOf, roleAt, fourOf}
 use Rattle.layout.specs.Ranges.{CellIn, PlaceIn, RoleIn, OuterIn, InnerIn, UserIn}
 
@@ -61,8 +62,8 @@ The-columns-of-a-diagonal = (g i j : ℕ) → i < g → j < g → Column g i j (
 abbrev pub The-parity-is-on-its-diagonal : Type 0
 The-parity-is-on-its-diagonal = (g j : ℕ) → j < g → diagonalColumn g j (g - 1) ≡ g - 1 - j
 
--- "disk d is in group d/g (whole part), column d mod g"; "unit number = part·g + row"; "A group's part p belongs to the p-th
--- row of the design, from 0, that names it"
+-- "disk d is in group d/g (whole part), column d mod g"; "unit number = part·g + row"; "A group's part p belongs to the
+-- p-th row of the design, from 0, that names it"
 abbrev pub The-place-of-a-cell : Type 0
 The-place-of-a-cell =
     (G : Geometry) (d : List ℕ) (t l i x a : ℕ) → a ≡ groupAt (G .k) d t l →
@@ -83,8 +84,8 @@ pub record UserNumbers (G : Geometry) : Type 0 where
 abbrev pub User-units-are-numbered : Type 0
 User-units-are-numbered = (G : Geometry) → Sound G → UserNumbers G
 
--- "The way back answers, for any disk and unit": the map of roles to places and the way back are inverse, and neither leaves
--- its range
+-- "The way back answers, for any disk and unit": the map of roles to places and the way back are inverse, and neither
+-- leaves its range
 pub record Inverse (G : Geometry) (d : List ℕ) : Type 0 where
   pub there : (ρ : Role) → RoleIn G ρ → PlaceIn G (rolePlace G d ρ)
   pub back : (ρ : Role) → RoleIn G ρ → placeRole G d (rolePlace G d ρ) ≡ ρ
@@ -110,8 +111,8 @@ No-two-user-units-share-a-place =
     (G : Geometry) (d : List ℕ) → Laid G d → (m n : ℕ) → m < userUnitsOf G → n < userUnitsOf G →
     fourOf G d m .user ≡ fourOf G d n .user → m ≡ n
 
--- "data, outer parity, inner of data, inner of outer": the way back of user n's four places. The outer parity is its label's;
--- the inner ones are those of the diagonals on which the unit and its outer parity lie
+-- "data, outer parity, inner of data, inner of outer": the way back of user n's four places. The outer parity is its
+-- label's; the inner ones are those of the diagonals on which the unit and its outer parity lie
 pub record FourRoles (G : Geometry) (d : List ℕ) (n : ℕ) : Type 0 where
   pub of-user : placeRole G d (fourOf G d n .user) ≡ user n
   pub of-outer : placeRole G d (fourOf G d n .outer) ≡ outer (userTuple G n) (userRow G n) (userColumn G n)
