@@ -10,7 +10,7 @@ use Rattle.checking.proofs.check.Reads as check
 
 -- what the contract allows to be answered for v, k and a lent list
 abbrev pub Allowed : Lfts 1 → ℕ → ℕ → RefT (List ℕ) → Checked → Type 0
-Allowed κs v k design r = check.Post κs (v , (k , (design , tt))) r (v , (k , (design , tt)))
+Allowed κs v k design r = check.Post κs (v, (k, (design, tt))) r (v, (k, (design, tt)))
 
 -- two answers for the same v, k and list are the same answer; the list is lent to be read only
 pub two-results :

@@ -4,7 +4,6 @@ mod rows;
 
 use refusal::Checked;
 use refusal::Refusal;
-
 ghost use mathlib.Core.Path.{_≡_};
 ghost use mathlib.Core.Bool.{_&&_};
 ghost use Prim.Native.Nat.{_*_};
@@ -30,10 +29,16 @@ pub fn check(v: u32, k: u32, design: &[u16]) -> Checked
     ensures { λ r. ⌜ checkedOutcome r ≡ verdict (designRules v k (now (design .entry))) ⌝ }
 {
     if geometry::beyond_limits(v, k) {
-        return Checked::Refused(Refusal { number: 2, place: 0 });
+        return Checked::Refused(Refusal {
+            number: 2,
+            place: 0,
+        });
     }
     if !list_fits(v, k, design.len()) {
-        return Checked::Refused(Refusal { number: 3, place: 0 });
+        return Checked::Refused(Refusal {
+            number: 3,
+            place: 0,
+        });
     }
     let groups = v as usize;
     let size = k as usize;

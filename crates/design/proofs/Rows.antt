@@ -1,10 +1,11 @@
 -- The rows of a design, in words and by tests: which groups a row names, and that it names each once. Assumes nothing.
-use Prim.Native.Nat.{ℕ, zero, suc, _+_, _-_, _*_, _<_, _≤_}
+use Prim.Native.Nat.{ℕ, zero, suc, _+_, _-_, _*_, _/_, _<_, _≤_}
 use mathlib.Core.Path.{_≡_, refl, sym, ap, _∙_}
 use mathlib.Core.Bool.{Bool, true, false, _&&_}
 use mathlib.Core.List.{List}
 use lib.Dec.{eqb}
-use native.Mathlib.Nat.{mul-one, mul-sub, eq-of-mul-eq-mul-right}
+use lib.Arith.{digits-div}
+use native.Mathlib.Nat.{mul-one, mul-sub}
 use native.Mathlib.Numerals.{add-one}
 use native.Mathlib.Omega.{arith}
 use native.Mathlib.Decide.{decLt}
@@ -26,6 +27,7 @@ use Rattle.counting.proofs.Sums.{
 }
 use Rattle.geometry.specs.Geometry.{rOf}
 use Rattle.design.specs.Design.{groupAt, names, InRow, OneRow, Design}
+use Rattle.design.specs.Theorems.{Each-group-in-r-rows}
 
 -- the test that position l of row t holds group a
 abbrev pub holds : ℕ → List ℕ → ℕ → ℕ → ℕ → Bool
@@ -165,10 +167,9 @@ module _ (v k b : ℕ) (d : List ℕ) (D : Design v k b d) (a : ℕ) (ha : a < v
       ap (λ (x : ℕ). x + 1) (sym by-rows ∙ count-exchange (λ (t c : ℕ). together k d a c t) b v) ∙ by-groups
 
 -- a design gives every group exactly r rows
-pub each-group-in-r-rows :
-    (v k b : ℕ) (d : List ℕ) → 2 ≤ k → Design v k b d → rOf v k * (k - 1) ≡ v - 1 → (a : ℕ) → a < v →
-    countBelow (names k d a) b ≡ rOf v k
-each-group-in-r-rows v k b d hk D whole a ha =
+pub each-group-in-r-rows : Each-group-in-r-rows
+unfolding rOf
+each-group-in-r-rows v k b d hk D a ha =
     let rows : ℕ = countBelow (names k d a) b in
-    eq-of-mul-eq-mul-right (k - 1) (omega arith) rows (rOf v k)
-    (omega (arith, rows-of-group v k b d D a ha, mul-sub rows k 1, mul-one rows, whole))
+    let times : rows * (k - 1) + 0 ≡ v - 1 = omega (arith, rows-of-group v k b d D a ha, mul-sub rows k 1, mul-one rows) in
+    sym (digits-div rows {m = k - 1} {r = 0} (omega arith)) ∙ ap (λ (n : ℕ). n / (k - 1)) times

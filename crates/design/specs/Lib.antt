@@ -1,3 +1,4 @@
 pub mod Design
 pub mod Rules
 pub mod Reasons
+pub mod Theorems

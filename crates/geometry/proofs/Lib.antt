@@ -1,3 +1,4 @@
 pub mod Laws
 pub mod Multiples
 pub mod Examples
+pub mod Theorems

@@ -7,6 +7,7 @@ use mathlib.Core.Bool.{true}
 use native.Mathlib.Nat.{mul-one, mul-comm, mul-left-comm, mul-add, le-of-sub-eq-zero, emod-pos-of-not-dvd, mod-eq-zero-of-dvd, mul-sub, dvd-mul-left, dvd-mul-left-of-dvd, dvd-add-iff-right, dvd-sub, le-of-dvd, mod-lt, div-add-mod'}
 use native.Mathlib.Omega.{arith}
 use Rattle.geometry.specs.Geometry.{noDivisorBelow}
+use Rattle.geometry.specs.Theorems.{Multiples-differ}
 use Rattle.geometry.proofs.Laws.{NoDivisor, no-divisor}
 
 -- if g divides m·d, it divides m·(g mod d)
@@ -54,6 +55,6 @@ not-above g k d i j p h₀ h₁ hj e = le-of-sub-eq-zero (none (j - i) (omega ar
     none zero l w = refl
     none (suc n) l w = absurd (omega (arith, le-of-dvd (omega arith) w))
 
-pub multiples-differ : (g k : ℕ) → 0 < g → noDivisorBelow k g ≡ true → k ≤ g → (d : ℕ) → 0 < d → d < k → (i j : ℕ) → i < g → j < g → (i * d) % g ≡ (j * d) % g → i ≡ j
-multiples-differ g k hg p hk d h₀ h₁ i j hi hj e =
+pub multiples-differ : Multiples-differ
+multiples-differ g k p d h₀ h₁ i j hi hj e =
     omega (arith, not-above g k d i j (no-divisor k g p) h₀ h₁ hj e, not-above g k d j i (no-divisor k g p) h₀ h₁ hi (sym e))

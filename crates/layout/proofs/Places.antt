@@ -24,7 +24,7 @@ module _ (G : Geometry) (d : List ℕ) (L : Laid G d) where
   -- "Each disk has r parts": each group stands in r rows
   in-r-rows : (a : ℕ) → a < G .v → countBelow (names (G .k) d a) (tuplesOf G) ≡ rOf (G .v) (G .k)
   in-r-rows a h =
-      each-group-in-r-rows (G .v) (G .k) (tuplesOf G) d (L .sound .limits .k-low) (L .design) (L .sound .r-whole) a h
+      each-group-in-r-rows (G .v) (G .k) (tuplesOf G) d (L .sound .limits .k-low) (L .design) a h
 
   -- from a cell t, l, i, c whose group is a
   module _ (x : Cell) (h : CellIn G x) where

@@ -31,7 +31,7 @@ list-fits-requires c κs = limits-of _ _ (sym (c .before .beyond-limits .ensures
 
 -- src/lib.rt:36:9
 returns-2 : tie.Need-returns-2
-returns-2 c = 
+returns-2 c =
     sym
     (verdict-3 _ _ _ (sym (c .before .before .before .beyond-limits .ensures) ∙ c .before .before .if1 .left)
     (sym (c .before .list-fits .ensures) ∙ not-true _ (c .if2 .taken)))
@@ -62,14 +62,14 @@ cast-place c = omega (arith, b-bound _ _ (shaped-limits _ _ _ (shaped (c .before
 
 -- src/lib.rt:44:9
 returns-3 : tie.Need-returns-3
-returns-3 c = 
+returns-3 c =
     sym
     (verdict-4 _ _ _ (shaped (c .before .before)) _ _ (c .before .before .b-of .ensures) (c .before .first-bad-row .ensures)
     (c .if3 .taken))
 
 -- src/lib.rt:46:9
 first-bad-pair-requires : tie.Need-first-bad-pair-requires
-first-bad-pair-requires c κs = 
+first-bad-pair-requires c κs =
     (shaped-good _ _ _ (shaped (c .before .before)) _ _ (c .before .before .b-of .ensures) (c .before .first-bad-row .ensures) (c .if3 .left), c .before .before .b-of .ensures)
 
 square : (c : tie.After-b-of) → c .before .before .before .before .before .before .args .v * c .before .before .before .before .before .before .args .v ≤ 8281
@@ -85,14 +85,14 @@ cast-place-2 c = omega (arith, square (c .before .before .before .before))
 
 -- src/lib.rt:49:9
 returns-4 : tie.Need-returns-4
-returns-4 c = 
+returns-4 c =
     sym
     (verdict-5 _ _ _ (shaped (c .before .before .before .before)) _ _ (c .before .before .before .before .b-of .ensures)
     (c .before .before .before .first-bad-row .ensures) _ (c .before .before .if3 .left) (c .before .first-bad-pair .ensures) (c .if4 .taken))
 
 -- src/lib.rt:29:1
 returns-5 : tie.Need-returns-5
-returns-5 c = 
+returns-5 c =
     sym
     (verdict-fine _ _ _ (shaped (c .before .before .before .before)) _ _ (c .before .before .before .before .b-of .ensures)
     (c .before .before .before .first-bad-row .ensures) _ (c .before .before .if3 .left) (c .before .first-bad-pair .ensures) (c .if4 .left))
