@@ -10,7 +10,7 @@ pub(super) struct Counts {
     pub tuples: u32,
 }
 
-/// Refusals 2 to 5, "tested in this order".
+/// Refusals 2 to 5. "Tested in this order, those that apply to a call."
 pub(super) fn check(v: u32, k: u32, design: &[u16], plant: Plant) -> Result<Counts, Refusal> {
     limits(v, k, plant)?;
     let counts = lengths(v, k, design.len(), plant)?;
@@ -67,6 +67,8 @@ fn ascent(v: u32, rows: &[&[u16]], plant: Plant) -> Result<(), Refusal> {
 
 /// 5: "a pair a<b not in exactly one row", place "a·v+b, lowest a then b". For each pair, the rows that name both
 /// groups are counted. A row is held as the set of its groups, one bit a group, so that this does not take long.
+/// (The fault leaves out two pairs: one alone would not show, since as many pairs stand in the rows as there are, so
+/// that no pair is wrong alone.)
 fn pairs(v: u32, rows: &[&[u16]], plant: Plant) -> Result<(), Refusal> {
     let named = |row: &&[u16]| row.iter().filter(|group| **group < 128).fold(0u128, |set, group| set | 1 << group);
     let rows: Vec<u128> = rows.iter().map(named).collect();

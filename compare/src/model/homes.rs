@@ -22,9 +22,9 @@ pub(super) struct Homes<'a> {
     pub rows: Vec<&'a [u16]>,
     /// The part of each tuple's group at each position.
     parts: Vec<Vec<usize>>,
-    /// "Disk d is in group d/g (whole part), column d mod g": by group, then column.
+    /// "disk d is in group d/g (whole part), column d mod g": by group, then column.
     disks: Vec<Vec<u32>>,
-    /// "Unit number = part·g + row": by part, then row.
+    /// "unit number = part·g + row": by part, then row.
     units: Vec<Vec<u32>>,
 }
 

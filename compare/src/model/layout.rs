@@ -28,7 +28,7 @@ impl Layout {
         layout
     }
 
-    /// "The unit at position k-1 is its parity" (outer); "row g-1 holds its parity" (inner). Each is one set.
+    /// "The unit at position k-1 is its parity" (outer); "Row g-1 holds its parity" (inner). Each is one set.
     fn fill_parities(&mut self, homes: &Homes, regions: &[Region], plant: Plant) {
         let parity = parity_position(regions, plant);
         for tuple in 0..homes.rows.len() {

@@ -11,8 +11,8 @@ pub(super) type Label = (u32, u32);
 /// "Let a region be one part of all g disks of a group, rows and columns 0 to g-1": a tuple's region at one position.
 /// All tuples' regions at a position are alike: "the code design of different tuples are the same".
 pub(super) struct Region {
-    /// The labels of rows 0 to g-2. "The last g storage units which are in last row will be used to store parity blocks
-    /// of the inner layer code."
+    /// The labels of rows 0 to g-2: "the last g storage units which are in last row will be used to store parity blocks
+    /// of the inner layer code".
     pub labels: Vec<Vec<Label>>,
     /// The cells of each diagonal and the cell that holds its parity.
     pub diagonals: Vec<(Vec<Cell>, Cell)>,
@@ -45,8 +45,9 @@ impl Region {
     }
 }
 
-/// "Diagonal j of a region has the units of row i, column (i - j) mod g, for all i": diagonal 0 starts in column 0, each
-/// further one starts a column to the left, and each goes down and to the right. "Row g-1 holds its parity."
+/// "diagonal j of a region has the units of row i, column (i - j) mod g, for all i from 0 to g-1": diagonal 0 starts in
+/// column 0, each further one starts a column to the left, and each goes down and to the right. "Row g-1 holds its
+/// parity".
 fn diagonal(j: usize, g: usize, plant: Plant) -> (Vec<Cell>, Cell) {
     let left_of = |column| (column + g - 1) % g;
     let right_of = |column| (column + 1) % g;
