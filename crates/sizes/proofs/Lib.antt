@@ -1,1 +1,4 @@
 pub mod Reasons
+pub mod Rules
+pub mod TwoResults
+pub mod Exact
