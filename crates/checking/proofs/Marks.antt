@@ -139,6 +139,24 @@ pub record MarkedTo (v k : ℕ) (d : List ℕ) (t l base m : ℕ) (old new : Lis
   pub most : m ≤ k
   pub marks : Marked v (λ (a c : ℕ). eqb (groupAt k d t l) a && among k d t m c) old new
 
+-- no group behind position l is among the first l + 1
+none-behind :
+    (k : ℕ) (d : List ℕ) (t l : ℕ) → Rising (groupAt k d t) k → l < k → (a c : ℕ) → a < c
+    → (eqb (groupAt k d t l) a && among k d t (l + 1) c) ≡ false
+none-behind k d t l r h a c p = go (bool-either (eqb (groupAt k d t l) a))
+  where
+    go : (eqb (groupAt k d t l) a ≡ true) ⊎ (eqb (groupAt k d t l) a ≡ false) → (eqb (groupAt k d t l) a && among k d t (l + 1) c) ≡ false
+    go (inr s) = and-left-false (eqb (groupAt k d t l) a) (among k d t (l + 1) c) s
+    go (inl s) =
+        and-right-false (eqb (groupAt k d t l) a) (among k d t (l + 1) c)
+        (none-any (λ (j : ℕ). eqb (groupAt k d t j) c) (l + 1) none)
+      where
+        none : (j : ℕ) → j < l + 1 → eqb (groupAt k d t j) c ≡ false
+        none j q =
+            let x : groupAt k d t l ≡ a = eqb-true (groupAt k d t l) a s in
+            let y : groupAt k d t j ≤ groupAt k d t l = rising-le (groupAt k d t) k j l r (omega arith) h in
+            ne-eqb (groupAt k d t j) c (λ (i : groupAt k d t j ≡ c). omega arith)
+
 pub marked-to-none :
     (v k : ℕ) (d : List ℕ) (t l x : ℕ) (table : List ℕ) → GoodRow v k t d table → l < k → x ≡ groupAt k d t l
     → MarkedTo v k d t l (x * v) (l + 1) table table
@@ -148,25 +166,8 @@ marked-to-none v k d t l x table g h e =
       line = rw e;
       low = omega arith;
       most = omega arith;
-      marks = mark-none v _ table (λ (a c : ℕ) (p : a < c). go a c p (bool-either (eqb (groupAt k d t l) a)));
+      marks = mark-none v _ table (none-behind k d t l (good-rising v k d t (g .good)) h);
     }
-  where
-    rising : Rising (groupAt k d t) k
-    rising = good-rising v k d t (g .good)
-
-    go :
-        (a c : ℕ) → a < c → (eqb (groupAt k d t l) a ≡ true) ⊎ (eqb (groupAt k d t l) a ≡ false)
-        → (eqb (groupAt k d t l) a && among k d t (l + 1) c) ≡ false
-    go a c p (inr s) = and-left-false (eqb (groupAt k d t l) a) (among k d t (l + 1) c) s
-    go a c p (inl s) =
-        and-right-false (eqb (groupAt k d t l) a) (among k d t (l + 1) c)
-        (none-any (λ (j : ℕ). eqb (groupAt k d t j) c) (l + 1) none)
-      where
-        none : (j : ℕ) → j < l + 1 → eqb (groupAt k d t j) c ≡ false
-        none j q =
-            let z : groupAt k d t l ≡ a = eqb-true (groupAt k d t l) a s in
-            let y : groupAt k d t j ≤ groupAt k d t l = rising-le (groupAt k d t) k j l rising (omega arith) h in
-            ne-eqb (groupAt k d t j) c (λ (i : groupAt k d t j ≡ c). omega arith)
 
 -- where the pairs of the group at position l begin
 pub line-within :
@@ -221,10 +222,19 @@ marked-to-all v k d t l base m old new r h =
     let e : m ≡ k = omega arith in
     rw e at (r .marks)
 
--- the pairs of the first l groups with those behind them
+-- the pairs of the first l groups with those behind them, and then those of the group at position l
+row-next :
+    (v k : ℕ) (d : List ℕ) (t l : ℕ) (old mid new : List ℕ) → Rising (groupAt k d t) k → l < k
+    → Marked v (λ (a c : ℕ). among k d t l a && names k d c t) old mid
+    → Marked v (λ (a c : ℕ). eqb (groupAt k d t l) a && names k d c t) mid new
+    → Marked v (λ (a c : ℕ). among k d t (l + 1) a && names k d c t) old new
+row-next v k d t l old mid new r h p q =
+    mark-then v _ _ _ old mid new p q
+    (λ (a c : ℕ). joined-right (names k d c t) _ _ _ (among-joined k d t l a r h))
+
 pub record RowTo (v k : ℕ) (d : List ℕ) (t l : ℕ) (old new : List ℕ) : Type 0 where
   pub row : GoodRow v k t d old
-  pub most : l ≤ k
+  pub most : l < k
   pub marks : Marked v (λ (a c : ℕ). among k d t l a && names k d c t) old new
 
 pub row-to-none :
@@ -232,7 +242,7 @@ pub row-to-none :
 row-to-none v k d t table g =
     record {
       row = g;
-      most = omega arith;
+      most = omega (arith, g .limits);
       marks = mark-none v _ table (λ (a c : ℕ) (p : a < c). and-left-false (among k d t 0 a) (names k d c t) (none a));
     }
   where
@@ -240,29 +250,34 @@ row-to-none v k d t table g =
     none a = none-any (λ (l : ℕ). eqb (groupAt k d t l) a) 0 (λ (j : ℕ) (h : j < 0). absurd (omega arith))
 
 pub row-to-row :
-    (v k : ℕ) (d : List ℕ) (t l : ℕ) (old new : List ℕ) → RowTo v k d t l old new → GoodRow v k t d new
+    (v k : ℕ) (d : List ℕ) (t l : ℕ) (old new : List ℕ) → RowTo v k d t l old new → GoodRow v k t d new × (l < k)
 row-to-row v k d t l old new r =
     let g = r .row in
-    record { limits = g .limits; row-end = g .row-end; good = g .good; room = omega (arith, g .room, r .marks .size) }
+    (record { limits = g .limits; row-end = g .row-end; good = g .good; room = omega (arith, g .room, r .marks .size) },
+    r .most)
 
 pub row-to-next :
-    (v k : ℕ) (d : List ℕ) (t l : ℕ) (old mid new : List ℕ) → RowTo v k d t l old mid → l < k
+    (v k : ℕ) (d : List ℕ) (t l : ℕ) (old mid new : List ℕ) → RowTo v k d t l old mid → l < k - 1
     → Marked v (λ (a c : ℕ). eqb (groupAt k d t l) a && names k d c t) mid new → RowTo v k d t (l + 1) old new
 row-to-next v k d t l old mid new r h s =
-    record { row = r .row; most = omega arith; marks = mark-then v _ _ _ old mid new (r .marks) s joined }
-  where
-    joined : (a c : ℕ) → Joined (among k d t l a && names k d c t) (eqb (groupAt k d t l) a && names k d c t) (among k d t (l + 1) a && names k d c t)
-    joined a c =
-        joined-right (names k d c t) _ _ _ (among-joined k d t l a (good-rising v k d t (r .row .good)) h)
+    record {
+      row = r .row;
+      most = omega arith;
+      marks = row-next v k d t l old mid new (good-rising v k d t (r .row .good)) (r .most) (r .marks) s;
+    }
 
+-- the last group has none behind it
 pub row-to-all :
-    (v k : ℕ) (d : List ℕ) (t l : ℕ) (old new : List ℕ) → RowTo v k d t l old new → k ≤ l
+    (v k : ℕ) (d : List ℕ) (t l : ℕ) (old new : List ℕ) → RowTo v k d t l old new → k - 1 ≤ l
     → Marked v (λ (a c : ℕ). names k d a t && names k d c t) old new
 unfolding names
 row-to-all v k d t l old new r h =
-    let most : l ≤ k = r .most in
-    let e : l ≡ k = omega arith in
-    rw e at (r .marks)
+    let rising = good-rising v k d t (r .row .good) in
+    let most : l < k = r .most in
+    let e : l + 1 ≡ k = omega arith in
+    let last : Marked v (λ (a c : ℕ). eqb (groupAt k d t l) a && among k d t k c) new new =
+      rw e at (mark-none v _ new (none-behind k d t l rising most)) in
+    rw e at (row-next v k d t l old new new rising most (r .marks) last)
 
 -- ---- all rows
 

@@ -33,13 +33,14 @@ fn mark_with(table: &mut [u8], design: &[u16], v: usize, k: usize, t: usize, l: 
     }
 }
 
-// Counts the pairs of row t.
+// Counts the pairs of row t. The last group has none behind it.
 fn mark_row(table: &mut [u8], design: &[u16], v: usize, k: usize, t: usize)
     requires { ⌜ GoodRow v k t (now design) (now table) ⌝ }
     ensures { λ _. ⌜ Marked v (λ (a c : ℕ). names k (now (design .entry)) a t && names k (now (design .entry)) c t) (now (table .entry)) (now (table .exit)) ⌝ }
 {
+    let last = k - 1;
     let mut l: usize = 0;
-    while l < k {
+    while l < last {
         mark_with(table, design, v, k, t, l);
         l += 1;
     }

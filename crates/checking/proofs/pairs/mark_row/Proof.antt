@@ -1,4 +1,5 @@
 use Prim.Native.Nat.{_-_}
+use native.Mathlib.Omega.{arith}
 use borrow.Author.Needs.{needs}
 use Rattle.checking.proofs.Marks.{RowTo, row-to-none, row-to-row, row-to-next, row-to-all}
 use Rattle.checking.proofs.pairs.mark_row.Statement.{statement}
@@ -8,30 +9,34 @@ use Rattle.checking.proofs.pairs.mark_row.Lts as lts
 use Rattle.checking.proofs.pairs.mark_with.Reads as mark-with-reads
 
 abbrev Inv-loop : tie.InvT-loop
-Inv-loop table₀ design v k t l₀ table l = RowTo v k design t l table₀ table
+Inv-loop table₀ design v k t last l₀ table l = RowTo v k design t l table₀ table
 
 abbrev μ-loop : tie.MeasureT-loop
-μ-loop table₀ design v k t l₀ table l = k - l
+μ-loop table₀ design v k t last l₀ table l = k - l
 
--- src/pairs.rt:42:5
+-- src/pairs.rt:41:16
+sub-last : tie.Need-sub-last Inv-loop μ-loop
+sub-last c = search needs
+
+-- src/pairs.rt:43:5
 loop-holds : tie.Need-loop-holds Inv-loop μ-loop
 loop-holds c = row-to-none _ _ _ _ _ (c .before .before .pre)
 
--- src/pairs.rt:43:9
-mark-with-requires : tie.Need-mark-with-requires Inv-loop μ-loop
-mark-with-requires c κs = (row-to-row _ _ _ _ _ _ _ (c .before .before .loop .inv), c .before .loop-test .taken)
-
 -- src/pairs.rt:44:9
+mark-with-requires : tie.Need-mark-with-requires Inv-loop μ-loop
+mark-with-requires c κs = row-to-row _ _ _ _ _ _ _ (c .before .before .loop .inv)
+
+-- src/pairs.rt:45:9
 add-l : tie.Need-add-l Inv-loop μ-loop
 add-l c = search needs
 
--- src/pairs.rt:42:5
+-- src/pairs.rt:43:5
 loop-less : tie.Need-loop-less Inv-loop μ-loop
 loop-less c = search needs
 
--- src/pairs.rt:42:5
+-- src/pairs.rt:43:5
 loop-again : tie.Need-loop-again Inv-loop μ-loop
-loop-again c =
+loop-again c = 
     row-to-next _ _ _ _ _ _ _ _ (c .before .before .before .before .before .loop .inv) (c .before .before .before .before .loop-test .taken) (c .before .before .mark-with .ensures)
 
 -- src/pairs.rt:37:1
@@ -48,6 +53,7 @@ mark-row-spec =
     (tie.spec
     Inv-loop
     μ-loop
+    sub-last
     loop-holds
     mark-with-requires
     add-l
