@@ -1,0 +1,54 @@
+-- The cases of the positions and of a cell's role, one law for each, as a function that goes by them returns. Assumes nothing.
+use Prim.Native.Nat.{ℕ, _+_, _-_, _*_, _≤_, _<_}
+use mathlib.Core.Path.{_≡_}
+use native.Mathlib.Numerals.{add-one, sub-one}
+use borrow.Author.Tests.{lt-ltb, le-ltb, eq-eqb, ne-eqb}
+use Rattle.geometry.specs.declared.Geometry.{Geometry}
+use Rattle.geometry.specs.declared.UserUnit.{UserUnit}
+use Rattle.layout.specs.declared.Cell.{Cell}
+use Rattle.layout.specs.declared.Role.{Role}
+use Rattle.layout.specs.declared.Role.the-variants.{User, Outer, Inner}
+use Rattle.layout.specs.Cells.{labelAt, diagonalAt, parityPosition, dataPosition, dataNumber}
+use Rattle.layout.specs.Roles.{userNumber, roleOf}
+
+pub position-below : (k t m : ℕ) → m < parityPosition k t → m ≡ dataPosition k t m
+unfolding dataPosition
+position-below k t m h = rw (lt-ltb m (parityPosition k t) h)
+
+pub position-above : (k t m : ℕ) → parityPosition k t ≤ m → m + 1 ≡ dataPosition k t m
+unfolding dataPosition
+position-above k t m h = rw (le-ltb m (parityPosition k t) h, add-one)
+
+pub number-below : (k t l : ℕ) → l < parityPosition k t → l ≡ dataNumber k t l
+unfolding dataNumber
+number-below k t l h = rw (lt-ltb l (parityPosition k t) h)
+
+pub number-above : (k t l : ℕ) → parityPosition k t ≤ l → l - 1 ≡ dataNumber k t l
+unfolding dataNumber
+number-above k t l h = rw (le-ltb l (parityPosition k t) h, sub-one)
+
+module _ (G : Geometry) (x : Cell) where
+  pub role-inner : (j : ℕ) → j ≡ diagonalAt (G .g) (x .row) (x .column) → x .row ≡ G .g - 1
+      → Inner (x .tuple) (x .position) j ≡ roleOf G x
+  unfolding roleOf
+  role-inner j e last = rw (eq-eqb (x .row) (G .g - 1) last, e)
+
+  pub role-outer : (c : ℕ) → c ≡ labelAt (G .g) (x .position) (x .row) (x .column) → (x .row ≡ G .g - 1 → ⊥)
+      → x .position ≡ parityPosition (G .k) (x .tuple .0) → Outer (x .tuple) (x .row) c ≡ roleOf G x
+  unfolding roleOf
+  role-outer c e inside parity =
+      rw (ne-eqb (x .row) (G .g - 1) inside, eq-eqb (x .position) (parityPosition (G .k) (x .tuple .0)) parity, e)
+
+  pub role-user : (c l : ℕ) (n : UserUnit) → c ≡ labelAt (G .g) (x .position) (x .row) (x .column)
+      → l ≡ dataNumber (G .k) (x .tuple .0) (x .position)
+      → n .0 ≡ userNumber G (x .tuple .0) l (x .row) c
+      → (x .row ≡ G .g - 1 → ⊥)
+      → (x .position ≡ parityPosition (G .k) (x .tuple .0) → ⊥) → User n ≡ roleOf G x
+  unfolding roleOf
+  role-user c l n e f h inside region =
+      rw (ne-eqb (x .row) (G .g - 1) inside, ne-eqb (x .position) (parityPosition (G .k) (x .tuple .0)) region, ← f, ← e, ← h)
+
+pub number-of : (G : Geometry) (t l i c a b r : ℕ) → a ≡ t * (G .k - 1) + l → b ≡ a * (G .g - 1) + i → r ≡ b * G .g + c
+    → r ≡ userNumber G t l i c
+unfolding userNumber
+number-of G t l i c a b r p q e = rw (e, q, p)

@@ -1,0 +1,24 @@
+-- `cells::column_of_label` meets its contract. Assumes nothing.
+use native.Mathlib.Omega.{arith}
+use native.Mathlib.Nat.{mul-le-mul, mod-lt}
+use mathlib.Core.Path.{refl}
+use Rattle.layout.specs.Cells.{labelColumn}
+use borrow.Author.Needs.{needs}
+use Rattle.cells.proofs.column_of_label.Statement.{statement}
+use Rattle.cells.proofs.column_of_label.Tie as tie
+
+mul-result : tie.Need-mul-result
+mul-result c = omega (arith, mul-le-mul (c .pre .i-high) (c .pre .l-high))
+
+add-result : tie.Need-add-result
+add-result c = omega (arith, mul-le-mul (c .pre .i-high) (c .pre .l-high))
+
+rem-result : tie.Need-rem-result
+rem-result c = search needs
+
+returns : tie.Need-returns
+unfolding labelColumn
+returns c = (refl, mod-lt _ (c .pre .g-low))
+
+pub column-of-label-spec : {M : Type 1} → statement M
+column-of-label-spec = tie.close (tie.spec mul-result add-result rem-result returns)

@@ -1,0 +1,17 @@
+-- `cells::digit_after` meets its contract. Assumes nothing.
+use native.Mathlib.Omega.{arith}
+use native.Mathlib.Nat.{mul-le-mul, mul-le-mul-left}
+use Rattle.cells.proofs.digit_after.Statement.{statement}
+use Rattle.cells.proofs.digit_after.Tie as tie
+
+mul-result : tie.Need-mul-result
+mul-result c = omega (arith, mul-le-mul (c .pre .high-high) (c .pre .m-high))
+
+add-result : tie.Need-add-result
+add-result c = omega (arith, mul-le-mul (c .pre .high-high) (c .pre .m-high))
+
+returns : tie.Need-returns
+returns c = omega (arith, mul-le-mul-left (c .args .high) (c .pre .m-high))
+
+pub digit-after-spec : {M : Type 1} → statement M
+digit-after-spec = tie.close (tie.spec mul-result add-result returns)

@@ -1,0 +1,49 @@
+-- `cells::role_of` meets its contract. Assumes nothing.
+use mathlib.Core.Path.{sym, _∙_}
+use Rattle.cells.proofs.Cases.{role-inner, role-outer, role-user}
+use borrow.Author.Needs.{needs}
+use Rattle.cells.proofs.role_of.Statement.{statement}
+use Rattle.cells.proofs.role_of.Tie as tie
+
+sub-if1 : tie.Need-sub-if1
+sub-if1 c = search needs
+
+diagonal-at-requires : tie.Need-diagonal-at-requires
+diagonal-at-requires c κs = search needs
+
+returns : tie.Need-returns
+returns c = role-inner _ _ _ (c .diagonal-at .ensures .0) (c .before .if1 .taken)
+
+label-at-requires : tie.Need-label-at-requires
+label-at-requires c κs = search needs
+
+parity-position-requires : tie.Need-parity-position-requires
+parity-position-requires c κs = search needs
+
+returns-2 : tie.Need-returns-2
+returns-2 c = role-outer _ _ _ (c .before .before .before .label-at .ensures .0) (c .before .before .before .before .if1 .left) (c .if2 .taken ∙ c .before .before .parity-position .ensures .0)
+
+data-number-requires : tie.Need-data-number-requires
+data-number-requires c κs = search needs
+
+user-number-requires : tie.Need-user-number-requires
+user-number-requires c κs = search needs
+
+returns-3 : tie.Need-returns-3
+returns-3 c = role-user _ _ _ _ _ (c .before .before .before .before .before .label-at .ensures .0) (c .before .data-number .ensures .0) (c .user-number .ensures)
+    (c .before .before .before .before .before .before .if1 .left)
+    (λ e. c .before .before .if2 .left (e ∙ sym (c .before .before .before .before .parity-position .ensures .0)))
+
+pub role-of-spec : {M : Type 1} → statement M
+role-of-spec =
+    tie.close
+    (tie.spec
+    sub-if1
+    diagonal-at-requires
+    returns
+    label-at-requires
+    parity-position-requires
+    returns-2
+    data-number-requires
+    user-number-requires
+    returns-3)
