@@ -27,27 +27,6 @@ pub number-above : (k t l : ℕ) → parityPosition k t ≤ l → l - 1 ≡ data
 unfolding dataNumber
 number-above k t l h = rw (le-ltb l (parityPosition k t) h, sub-one)
 
-module _ (G : Geometry) (x : Cell) where
-  pub role-inner : (j : ℕ) → j ≡ diagonalAt (G .g) (x .row) (x .column) → x .row ≡ G .g - 1
-      → Inner (x .tuple) (x .position) j ≡ roleOf G x
-  unfolding roleOf
-  role-inner j e last = rw (eq-eqb (x .row) (G .g - 1) last, e)
-
-  pub role-outer : (c : ℕ) → c ≡ labelAt (G .g) (x .position) (x .row) (x .column) → (x .row ≡ G .g - 1 → ⊥)
-      → x .position ≡ parityPosition (G .k) (x .tuple .0) → Outer (x .tuple) (x .row) c ≡ roleOf G x
-  unfolding roleOf
-  role-outer c e inside parity =
-      rw (ne-eqb (x .row) (G .g - 1) inside, eq-eqb (x .position) (parityPosition (G .k) (x .tuple .0)) parity, e)
-
-  pub role-user : (c l : ℕ) (n : UserUnit) → c ≡ labelAt (G .g) (x .position) (x .row) (x .column)
-      → l ≡ dataNumber (G .k) (x .tuple .0) (x .position)
-      → n .0 ≡ userNumber G (x .tuple .0) l (x .row) c
-      → (x .row ≡ G .g - 1 → ⊥)
-      → (x .position ≡ parityPosition (G .k) (x .tuple .0) → ⊥) → User n ≡ roleOf G x
-  unfolding roleOf
-  role-user c l n e f h inside region =
-      rw (ne-eqb (x .row) (G .g - 1) inside, ne-eqb (x .position) (parityPosition (G .k) (x .tuple .0)) region, ← f, ← e, ← h)
-
 pub number-of : (G : Geometry) (t l i c a b r : ℕ) → a ≡ t * (G .k - 1) + l → b ≡ a * (G .g - 1) + i → r ≡ b * G .g + c
     → r ≡ userNumber G t l i c
 unfolding userNumber

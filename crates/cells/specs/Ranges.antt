@@ -1,10 +1,10 @@
--- What the functions on cells are given and give: ranges, with their facts named. Assumes nothing.
-use Prim.Native.Nat.{ℕ, _-_, _≤_, _<_}
+-- What the functions on cells are given and give. Assumes nothing.
+use Prim.Native.Nat.{ℕ, _≤_}
 use Rattle.geometry.specs.declared.Geometry.{Geometry}
-use Rattle.geometry.specs.Geometry.{tuplesOf}
 use Rattle.layout.specs.declared.Cell.{Cell}
 use Rattle.layout.specs.Cells.{dataPosition}
 use Rattle.layout.specs.Sets.{outerMember, outerParity}
+use Rattle.layout.specs.Ranges.{UserIn}
 use Rattle.layout.specs.Roles.{userTuple, userRegion, userRow, userColumn}
 use Rattle.cells.specs.declared.Digits.{Digits}
 
@@ -16,21 +16,11 @@ pub record Small (g l i x : ℕ) : Type 0 where
   pub i-high : i ≤ 13
   pub x-high : x ≤ 13
 
--- the cell is one of the geometry's tuples
-pub record Within (G : Geometry) (x : Cell) : Type 0 where
-  pub tuple : x .tuple .0 < tuplesOf G
-  pub position : x .position < G .k
-  pub row : x .row < G .g
-  pub column : x .column < G .g
+-- the digits are those of a user unit
+abbrev pub DigitsIn : Geometry → Digits → Type 0
+DigitsIn G x = UserIn G (x .tuple .0) (x .region) (x .row) (x .column)
 
--- t, l, i and c of a user unit's number: "n = ((t·(k-1) + l)·(g-1) + i)·g + c"
-pub record InDigits (G : Geometry) (x : Digits) : Type 0 where
-  pub tuple : x .tuple .0 < tuplesOf G
-  pub region : x .region < G .k - 1
-  pub row : x .row < G .g - 1
-  pub column : x .column < G .g
-
--- the digits of user unit n
+-- the digits of user unit n: "n = ((t·(k-1) + l)·(g-1) + i)·g + c"
 abbrev pub digitsOf : Geometry → ℕ → Digits
 digitsOf G n =
     record {

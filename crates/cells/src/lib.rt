@@ -8,10 +8,11 @@ use layout::Role;
 ghost use Prim.Native.Nat.{_+_, _-_, _*_, _≤_, _<_};
 ghost use mathlib.Core.Path.{_≡_};
 ghost use Rattle.geometry.specs.Geometry.{Sound, tuplesOf, userUnitsOf};
-ghost use Rattle.layout.specs.Cells.{cell, labelColumn, labelAt, diagonalColumn, diagonalAt, parityPosition, dataPosition, dataNumber};
+ghost use Rattle.layout.specs.Cells.{labelColumn, labelAt, diagonalColumn, diagonalAt, parityPosition, dataPosition, dataNumber};
 ghost use Rattle.layout.specs.Sets.{outerMember, innerMember, outerParity, innerParity};
+ghost use Rattle.layout.specs.Ranges.{CellIn, OuterIn, InnerIn};
 ghost use Rattle.layout.specs.Roles.{userNumber, userCell, userOuter, innerOf, roleOf};
-ghost use Rattle.cells.specs.Ranges.{Small, Within, InDigits, Fitting, digitsOf, dataCell, parityCell};
+ghost use Rattle.cells.specs.Ranges.{Small, DigitsIn, Fitting, digitsOf, dataCell, parityCell};
 
 // User unit n is label (row,column) in the data region of this number of the tuple.
 pub struct Digits {
@@ -92,8 +93,9 @@ pub fn data_number(geometry: Geometry, tuple: Tuple, position: u32) -> u32
 // The member at a position of the outer set of label (row,column).
 pub fn outer_member(geometry: Geometry, tuple: Tuple, row: u32, column: u32, position: u32) -> Cell
     requires { ⌜ Sound geometry ⌝ }
-    requires { ⌜ Within geometry (cell (tuple .0) position row column) ⌝ }
-    ensures { λ r. ⌜ (r ≡ outerMember geometry (tuple .0) row column position) × Within geometry r ⌝ }
+    requires { ⌜ OuterIn geometry (tuple .0) row column ⌝ }
+    requires { ⌜ position < geometry .k ⌝ }
+    ensures { λ r. ⌜ (r ≡ outerMember geometry (tuple .0) row column position) × CellIn geometry r ⌝ }
 {
     Cell {
         tuple,
@@ -106,8 +108,8 @@ pub fn outer_member(geometry: Geometry, tuple: Tuple, row: u32, column: u32, pos
 // "Row g-1 holds its parity, in column g-1-j"
 pub fn inner_parity(geometry: Geometry, tuple: Tuple, position: u32, diagonal: u32) -> Cell
     requires { ⌜ Sound geometry ⌝ }
-    requires { ⌜ Within geometry (cell (tuple .0) position 0 diagonal) ⌝ }
-    ensures { λ r. ⌜ (r ≡ innerParity geometry (tuple .0) position diagonal) × Within geometry r ⌝ }
+    requires { ⌜ InnerIn geometry (tuple .0) position diagonal ⌝ }
+    ensures { λ r. ⌜ (r ≡ innerParity geometry (tuple .0) position diagonal) × CellIn geometry r ⌝ }
 {
     Cell {
         tuple,
@@ -120,8 +122,8 @@ pub fn inner_parity(geometry: Geometry, tuple: Tuple, position: u32, diagonal: u
 // The inner parity of the diagonal on which a cell lies.
 pub fn inner_of(geometry: Geometry, at: Cell) -> Cell
     requires { ⌜ Sound geometry ⌝ }
-    requires { ⌜ Within geometry at ⌝ }
-    ensures { λ r. ⌜ (r ≡ innerOf geometry at) × Within geometry r ⌝ }
+    requires { ⌜ CellIn geometry at ⌝ }
+    ensures { λ r. ⌜ (r ≡ innerOf geometry at) × CellIn geometry r ⌝ }
 {
     inner_parity(
         geometry,
@@ -135,7 +137,7 @@ pub fn inner_of(geometry: Geometry, at: Cell) -> Cell
 pub fn digits_of(geometry: Geometry, n: UserUnit) -> Digits
     requires { ⌜ Sound geometry ⌝ }
     requires { ⌜ n .0 < userUnitsOf geometry ⌝ }
-    ensures { λ r. ⌜ (r ≡ digitsOf geometry (n .0)) × InDigits geometry r ⌝ }
+    ensures { λ r. ⌜ (r ≡ digitsOf geometry (n .0)) × DigitsIn geometry r ⌝ }
 {
     let columns = geometry.g;
     let rows = geometry.g - 1;
@@ -153,7 +155,7 @@ pub fn digits_of(geometry: Geometry, n: UserUnit) -> Digits
 // "n = ((t·(k-1) + l)·(g-1) + i)·g + c"
 pub fn user_number(geometry: Geometry, at: Digits) -> UserUnit
     requires { ⌜ Sound geometry ⌝ }
-    requires { ⌜ InDigits geometry at ⌝ }
+    requires { ⌜ DigitsIn geometry at ⌝ }
     ensures { λ r. ⌜ r .0 ≡ userNumber geometry (at .tuple .0) (at .region) (at .row) (at .column) ⌝ }
 {
     let region = digit_after(at.tuple.0, geometry.k - 1, at.region);
@@ -172,8 +174,8 @@ fn digit_after(high: u32, m: u32, low: u32) -> u32
 // The cell of the label and region that the digits name.
 pub fn data_cell(geometry: Geometry, at: Digits) -> Cell
     requires { ⌜ Sound geometry ⌝ }
-    requires { ⌜ InDigits geometry at ⌝ }
-    ensures { λ r. ⌜ (r ≡ dataCell geometry at) × Within geometry r ⌝ }
+    requires { ⌜ DigitsIn geometry at ⌝ }
+    ensures { λ r. ⌜ (r ≡ dataCell geometry at) × CellIn geometry r ⌝ }
 {
     outer_member(
         geometry,
@@ -187,8 +189,8 @@ pub fn data_cell(geometry: Geometry, at: Digits) -> Cell
 // The outer parity of the label that the digits name.
 pub fn parity_cell(geometry: Geometry, at: Digits) -> Cell
     requires { ⌜ Sound geometry ⌝ }
-    requires { ⌜ InDigits geometry at ⌝ }
-    ensures { λ r. ⌜ (r ≡ parityCell geometry at) × Within geometry r ⌝ }
+    requires { ⌜ DigitsIn geometry at ⌝ }
+    ensures { λ r. ⌜ (r ≡ parityCell geometry at) × CellIn geometry r ⌝ }
 {
     outer_member(
         geometry,
@@ -203,7 +205,7 @@ pub fn parity_cell(geometry: Geometry, at: Digits) -> Cell
 pub fn user_cell(geometry: Geometry, n: UserUnit) -> Cell
     requires { ⌜ Sound geometry ⌝ }
     requires { ⌜ n .0 < userUnitsOf geometry ⌝ }
-    ensures { λ r. ⌜ (r ≡ userCell geometry (n .0)) × Within geometry r ⌝ }
+    ensures { λ r. ⌜ (r ≡ userCell geometry (n .0)) × CellIn geometry r ⌝ }
 {
     data_cell(geometry, digits_of(geometry, n))
 }
@@ -212,7 +214,7 @@ pub fn user_cell(geometry: Geometry, n: UserUnit) -> Cell
 pub fn user_outer(geometry: Geometry, n: UserUnit) -> Cell
     requires { ⌜ Sound geometry ⌝ }
     requires { ⌜ n .0 < userUnitsOf geometry ⌝ }
-    ensures { λ r. ⌜ (r ≡ userOuter geometry (n .0)) × Within geometry r ⌝ }
+    ensures { λ r. ⌜ (r ≡ userOuter geometry (n .0)) × CellIn geometry r ⌝ }
 {
     parity_cell(geometry, digits_of(geometry, n))
 }
@@ -220,7 +222,7 @@ pub fn user_outer(geometry: Geometry, n: UserUnit) -> Cell
 // What a cell is for.
 pub fn role_of(geometry: Geometry, at: Cell) -> Role
     requires { ⌜ Sound geometry ⌝ }
-    requires { ⌜ Within geometry at ⌝ }
+    requires { ⌜ CellIn geometry at ⌝ }
     ensures { λ r. ⌜ r ≡ roleOf geometry at ⌝ }
 {
     let tuple = at.tuple;

@@ -1,6 +1,6 @@
 -- `cells::user_number` meets its contract. Assumes nothing.
 use native.Mathlib.Omega.{arith}
-use Rattle.cells.proofs.Ranges.{tuples-high}
+use Rattle.geometry.proofs.Laws.{tuples-bound}
 use Rattle.cells.proofs.Cases.{number-of}
 use borrow.Author.Needs.{needs}
 use Rattle.cells.proofs.user_number.Statement.{statement}
@@ -10,16 +10,16 @@ sub-digit-after : tie.Need-sub-digit-after
 sub-digit-after c = search needs
 
 digit-after-requires : tie.Need-digit-after-requires
-digit-after-requires c κs = omega (arith, tuples-high _ (c .before .pre .0))
+digit-after-requires c κs = omega (arith, tuples-bound _ (c .before .pre .0))
 
 sub-digit-after-2 : tie.Need-sub-digit-after-2
 sub-digit-after-2 c = search needs
 
 digit-after-requires-2 : tie.Need-digit-after-requires-2
-digit-after-requires-2 c κs = omega (arith, tuples-high _ (c .before .before .before .pre .0))
+digit-after-requires-2 c κs = omega (arith, tuples-bound _ (c .before .before .before .pre .0))
 
 digit-after-requires-3 : tie.Need-digit-after-requires-3
-digit-after-requires-3 c κs = omega (arith, tuples-high _ (c .before .before .before .before .pre .0))
+digit-after-requires-3 c κs = omega (arith, tuples-bound _ (c .before .before .before .before .pre .0))
 
 returns : tie.Need-returns
 returns c = number-of _ _ _ _ _ _ _ _ (c .before .before .before .digit-after .ensures .0) (c .before .digit-after2 .ensures .0)
