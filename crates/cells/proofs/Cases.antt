@@ -1,15 +1,15 @@
--- The cases of the positions and of a cell's role, one law for each, as a function that goes by them returns. Assumes nothing.
+-- The cases of the positions, one law for each, and the user numbering digit by digit. Assumes nothing.
 use Prim.Native.Nat.{ℕ, _+_, _-_, _*_, _≤_, _<_}
 use mathlib.Core.Path.{_≡_}
 use native.Mathlib.Numerals.{add-one, sub-one}
-use borrow.Author.Tests.{lt-ltb, le-ltb, eq-eqb, ne-eqb}
+use borrow.Author.Tests.{lt-ltb, le-ltb}
 use Rattle.geometry.specs.declared.Geometry.{Geometry}
 use Rattle.geometry.specs.declared.UserUnit.{UserUnit}
 use Rattle.layout.specs.declared.Cell.{Cell}
 use Rattle.layout.specs.declared.Role.{Role}
-use Rattle.layout.specs.declared.Role.the-variants.{User, Outer, Inner}
-use Rattle.layout.specs.Cells.{labelAt, diagonalAt, parityPosition, dataPosition, dataNumber}
-use Rattle.layout.specs.Roles.{userNumber, roleOf}
+use Rattle.layout.specs.declared.Role.the-variants.{User}
+use Rattle.layout.specs.Cells.{parityPosition, dataPosition, dataNumber}
+use Rattle.layout.specs.Roles.{userNumber, user}
 
 pub position-below : (k t m : ℕ) → m < parityPosition k t → m ≡ dataPosition k t m
 unfolding dataPosition
@@ -31,3 +31,8 @@ pub number-of : (G : Geometry) (t l i c a b r : ℕ) → a ≡ t * (G .k - 1) + 
     → r ≡ userNumber G t l i c
 unfolding userNumber
 number-of G t l i c a b r p q e = rw (e, q, p)
+
+-- a user unit is named by its number, worked out from the data region and the label's column
+pub user-role : (G : Geometry) (x : Cell) (c l : ℕ) (n : UserUnit) {e m : ℕ} → c ≡ e → l ≡ m
+    → n .0 ≡ userNumber G (x .tuple .0) l (x .row) c → User n ≡ user (userNumber G (x .tuple .0) m (x .row) e)
+user-role G x c l n p q h = rw (← p, ← q, ← h)

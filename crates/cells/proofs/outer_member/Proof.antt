@@ -11,15 +11,10 @@ column-of-label-requires : tie.Need-column-of-label-requires
 column-of-label-requires c κs = search needs
 
 returns : tie.Need-returns
-returns c = let w = c .before .pre .1 in (
+returns c = (
   ap (λ (x : ℕ). cell (c .before .args .tuple .0) (c .before .args .position) (c .before .args .row) x)
       (c .column-of-label .ensures .0),
-  record {
-    tuple = w .tuple;
-    position = w .position;
-    row = w .row;
-    column = c .column-of-label .ensures .1;
-  },
+  search needs,
 )
 
 pub outer-member-spec : {M : Type 1} → statement M

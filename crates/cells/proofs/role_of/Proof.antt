@@ -1,6 +1,9 @@
 -- `cells::role_of` meets its contract. Assumes nothing.
-use mathlib.Core.Path.{sym, _∙_}
-use Rattle.cells.proofs.Cases.{role-inner, role-outer, role-user}
+use Prim.Native.Nat.{ℕ}
+use mathlib.Core.Path.{ap, sym, _∙_}
+use Rattle.layout.specs.declared.Role.the-variants.{Outer, Inner}
+use Rattle.layout.proofs.Roles.{role-inner, role-outer, role-user}
+use Rattle.cells.proofs.Cases.{user-role}
 use borrow.Author.Needs.{needs}
 use Rattle.cells.proofs.role_of.Statement.{statement}
 use Rattle.cells.proofs.role_of.Tie as tie
@@ -12,7 +15,10 @@ diagonal-at-requires : tie.Need-diagonal-at-requires
 diagonal-at-requires c κs = search needs
 
 returns : tie.Need-returns
-returns c = role-inner _ _ _ (c .diagonal-at .ensures .0) (c .before .if1 .taken)
+returns c =
+    let a = c .before .before .before .before .before .args in
+    ap (λ (j : ℕ). Inner (a .at .tuple) (a .at .position) j) (c .diagonal-at .ensures .0)
+    ∙ sym (role-inner (a .geometry) (a .at) (c .before .if1 .taken))
 
 label-at-requires : tie.Need-label-at-requires
 label-at-requires c κs = search needs
@@ -21,7 +27,10 @@ parity-position-requires : tie.Need-parity-position-requires
 parity-position-requires c κs = search needs
 
 returns-2 : tie.Need-returns-2
-returns-2 c = role-outer _ _ _ (c .before .before .before .label-at .ensures .0) (c .before .before .before .before .if1 .left) (c .if2 .taken ∙ c .before .before .parity-position .ensures .0)
+returns-2 c =
+    let a = c .before .before .before .before .before .before .before .before .args in
+    ap (λ (x : ℕ). Outer (a .at .tuple) (a .at .row) x) (c .before .before .before .label-at .ensures .0)
+    ∙ sym (role-outer (a .geometry) (a .at) (c .before .before .before .before .if1 .left) (c .if2 .taken ∙ c .before .before .parity-position .ensures .0))
 
 data-number-requires : tie.Need-data-number-requires
 data-number-requires c κs = search needs
@@ -30,9 +39,11 @@ user-number-requires : tie.Need-user-number-requires
 user-number-requires c κs = search needs
 
 returns-3 : tie.Need-returns-3
-returns-3 c = role-user _ _ _ _ _ (c .before .before .before .before .before .label-at .ensures .0) (c .before .data-number .ensures .0) (c .user-number .ensures)
-    (c .before .before .before .before .before .before .if1 .left)
-    (λ e. c .before .before .if2 .left (e ∙ sym (c .before .before .before .before .parity-position .ensures .0)))
+returns-3 c =
+    let a = c .before .before .before .before .before .before .before .before .before .before .args in
+    user-role (a .geometry) (a .at) _ _ _ (c .before .before .before .before .before .label-at .ensures .0) (c .before .data-number .ensures .0) (c .user-number .ensures)
+    ∙ sym (role-user (a .geometry) (a .at) (c .before .before .before .before .before .before .if1 .left)
+    (λ e. c .before .before .if2 .left (e ∙ sym (c .before .before .before .before .parity-position .ensures .0))))
 
 pub role-of-spec : {M : Type 1} → statement M
 role-of-spec =
