@@ -1,6 +1,4 @@
 // The address map: a user unit's four places, and the way back from a disk and unit to its role.
-pub mod scan; // scan.rt: a group's entries in the design
-
 use layout::Four;
 use layout::Role;
 use refusal::Refusal;

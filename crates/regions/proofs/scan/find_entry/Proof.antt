@@ -1,12 +1,12 @@
--- `address::scan::find_entry` meets its contract. Assumes nothing.
+-- `regions::scan::find_entry` meets its contract. Assumes nothing.
 use Prim.Native.Nat.{_-_}
 use mathlib.Core.Logic.{⊎-elim}
 use native.Mathlib.Omega.{arith}
 use lib.ListN.{length}
-use Rattle.address.proofs.Scanned.{Passed, passed-none, passed-found, passed-hit, passed-miss, passed-all}
+use Rattle.regions.proofs.Scanned.{Passed, passed-none, passed-found, passed-hit, passed-miss, passed-all}
 use borrow.Author.Needs.{needs}
-use Rattle.address.proofs.scan.find_entry.Statement.{statement}
-use Rattle.address.proofs.scan.find_entry.Tie as tie
+use Rattle.regions.proofs.scan.find_entry.Statement.{statement}
+use Rattle.regions.proofs.scan.find_entry.Tie as tie
 
 abbrev Inv-loop : tie.InvT-loop
 Inv-loop design name wanted n₀ i₀ n i = Passed design name wanted n i

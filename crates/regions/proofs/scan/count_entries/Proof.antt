@@ -1,11 +1,11 @@
--- `address::scan::count_entries` meets its contract. Assumes nothing.
+-- `regions::scan::count_entries` meets its contract. Assumes nothing.
 use mathlib.Core.Logic.{⊎-elim}
 use native.Mathlib.Omega.{arith}
 use Prim.Native.Nat.{_-_}
-use Rattle.address.proofs.Scanned.{Counted, counted-none, counted-all, counted-hit, counted-miss}
+use Rattle.regions.proofs.Scanned.{Counted, counted-none, counted-all, counted-hit, counted-miss}
 use borrow.Author.Needs.{needs}
-use Rattle.address.proofs.scan.count_entries.Statement.{statement}
-use Rattle.address.proofs.scan.count_entries.Tie as tie
+use Rattle.regions.proofs.scan.count_entries.Statement.{statement}
+use Rattle.regions.proofs.scan.count_entries.Tie as tie
 
 abbrev Inv-loop : tie.InvT-loop
 Inv-loop design end name n₀ i₀ n i = Counted design name end n i
