@@ -1,4 +1,3 @@
-pub mod Examples
 pub mod Turns
 pub mod Positions
 pub mod Numbering
@@ -6,5 +5,6 @@ pub mod Sets
 pub mod SetNumbers
 pub mod Roles
 pub mod Places
-pub mod Disks
+pub mod SameDisk
 pub mod Theorems
+pub mod Examples

@@ -22,7 +22,7 @@ use Rattle.layout.proofs.Sets as sets
 use Rattle.layout.proofs.SetNumbers as numbers
 use Rattle.layout.proofs.Roles as roles
 use Rattle.layout.proofs.Places as places
-use Rattle.layout.proofs.Disks as disks
+use Rattle.layout.proofs.SameDisk as disks
 
 pub the-cell-of-a-user-unit : Theorems.The-cell-of-a-user-unit
 unfolding cellOf userNumber labelColumn

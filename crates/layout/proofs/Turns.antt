@@ -52,6 +52,20 @@ pub labelAt-lt : (g l i x : ℕ) → 0 < g → labelAt g l i x < g
 unfolding labelAt
 labelAt-lt g l i x h = mod-lt (x + i * (g - l)) h
 
+-- "column (i - j) mod g": with j added it is i, so a diagonal has one unit in a column
+pub row-of-column : (g j i : ℕ) → j ≤ g → i < g → (diagonalColumn g j i + j) % g ≡ i
+unfolding diagonalColumn
+row-of-column g j i h = turn-back g 1 (g - j) j i (omega arith)
+
+pub diagonal-once : (g j i n : ℕ) → j ≤ g → i < g → n < g → diagonalColumn g j i ≡ diagonalColumn g j n → i ≡ n
+diagonal-once g j i n h p q e =
+    sym (row-of-column g j i h p) ∙ ap (λ (x : ℕ). (x + j) % g) e ∙ row-of-column g j n h q
+
+-- equation 2: "Row g-1 holds its parity, in column g-1-j"
+pub parity-column : (g j : ℕ) → j < g → diagonalColumn g j (g - 1) ≡ g - 1 - j
+unfolding diagonalColumn
+parity-column g j h = mod-turned g 1 (g - 1 - j) (g - 1 + (g - j)) (omega arith) (omega arith)
+
 -- i - (i - j) is j, modulo g
 turn-twice : (g i j : ℕ) → i < g → j < g → (i + (g - (i + (g - j)) % g)) % g ≡ j
 turn-twice g i j h l = go (mod-twice g (i + (g - j)) (omega arith))
@@ -76,20 +90,6 @@ diagonalColumn-lt g j i h = mod-lt (i + (g - j)) h
 pub diagonalAt-lt : (g i x : ℕ) → 0 < g → diagonalAt g i x < g
 unfolding diagonalAt
 diagonalAt-lt g i x h = mod-lt (i + (g - x)) h
-
--- a diagonal has one unit in a column
-pub row-of-column : (g j i : ℕ) → j ≤ g → i < g → (diagonalColumn g j i + j) % g ≡ i
-unfolding diagonalColumn
-row-of-column g j i h = turn-back g 1 (g - j) j i (omega arith)
-
-pub diagonal-once : (g j i n : ℕ) → j ≤ g → i < g → n < g → diagonalColumn g j i ≡ diagonalColumn g j n → i ≡ n
-diagonal-once g j i n h p q e =
-    sym (row-of-column g j i h p) ∙ ap (λ (x : ℕ). (x + j) % g) e ∙ row-of-column g j n h q
-
--- equation 2: "Row g-1 holds its parity, in column g-1-j"
-pub parity-column : (g j : ℕ) → j < g → diagonalColumn g j (g - 1) ≡ g - 1 - j
-unfolding diagonalColumn
-parity-column g j h = mod-turned g 1 (g - 1 - j) (g - 1 + (g - j)) (omega arith) (omega arith)
 
 pub parity-diagonal : (g j : ℕ) → j < g → diagonalAt g (g - 1) (g - 1 - j) ≡ j
 parity-diagonal g j h =
