@@ -1,104 +1,88 @@
 -- Rows that ascend, and what 4 asks of a row. Assumes nothing.
 use Prim.Native.Nat.{ℕ, zero, suc, _+_, _-_, _*_, _≤_, _<_}
-use mathlib.Core.Path.{_≡_, refl, sym, ap, _∙_}
-use mathlib.Core.Bool.{Bool, true, false, _||_}
-use mathlib.Core.Logic.{_⊎_, inl, inr, ⊎-elim}
+use mathlib.Core.Path.{_≡_, sym, ap, _∙_}
+use mathlib.Core.Bool.{true, false}
+use mathlib.Core.Logic.{inl, inr}
 use mathlib.Core.List.{List}
-use native.Mathlib.Nat.{not-suc-le-zero, mul-le-mul-right, suc-mul}
+use native.Mathlib.Decide.{decLt}
+use native.Mathlib.Nat.{mul-le-mul-right, suc-mul}
 use native.Mathlib.Numerals.{add-one}
 use native.Mathlib.Omega.{arith}
-use lib.Dec.{leb, ltb}
+use lib.Dec.{leb}
 use lib.ListN.{length, getD}
-use borrow.Author.Tests.{ltb-true, ltb-false, leb-true, leb-false, le-leb, lt-leb}
-use Rattle.counting.specs.Counting.{anyBelow}
-use Rattle.counting.proofs.Bools.{bool-either, left-or, right-or, none-or, or-none}
-use Rattle.counting.proofs.Laws.{any-true, any-none, none-any}
+use borrow.Author.Tests.{le-leb, lt-leb}
+use Rattle.counting.proofs.Bools.{bool-not-both}
 use Rattle.design.specs.Design.{groupAt}
 use Rattle.design.specs.Rules.{rowBad}
+use Rattle.design.specs.Reasons.{BadRow}
+use Rattle.design.proofs.Firsts.{never-true}
+use Rattle.design.proofs.Words.{row-words, words-row}
 use Rattle.checking.specs.Table.{Rows}
 
 -- the first n numbers ascend
 pub record Rising (f : ℕ → ℕ) (n : ℕ) : Type 0 where
   pub step : (l : ℕ) → l + 1 < n → f l < f (l + 1)
 
+-- from any place to any later one
 pub rising-lt : (f : ℕ → ℕ) (n i j : ℕ) → Rising f n → i < j → j < n → f i < f j
-rising-lt f n i zero r h b = absurd (not-suc-le-zero h)
-rising-lt f n i (suc j) r h b = go (bool-either (ltb i j)) (λ (p : i < j). rising-lt f n i j r p (omega arith))
+rising-lt f n i zero r h b = omega arith
+rising-lt f n i (suc j) r h b =
+    go (decLt i j) (rw add-one at (r .step j (omega arith))) (λ (p : i < j). rising-lt f n i j r p (omega arith))
   where
-    last : f j < f (suc j)
-    last = rw (add-one j) at (r .step j (omega arith))
-
-    go : (ltb i j ≡ true) ⊎ (ltb i j ≡ false) → (i < j → f i < f j) → f i < f (suc j)
-    go (inl p) ih = let q : f i < f j = ih (ltb-true i j p) in omega (arith, last)
-    go (inr p) ih =
-        let q : j ≤ i = ltb-false i j p in
-        let e : i ≡ j = omega arith in
-        rw e last
+    go : Dec (i < j) → f j < f (suc j) → (i < j → f i < f j) → f i < f (suc j)
+    go (yes p) last before = let q : f i < f j = before p in omega arith
+    go (no p) last before = let e : i ≡ j = omega arith in rw e last
 
 pub rising-le : (f : ℕ → ℕ) (n i j : ℕ) → Rising f n → i ≤ j → j < n → f i ≤ f j
-rising-le f n i j r h b = go (bool-either (ltb i j))
+rising-le f n i j r h b = go (decLt i j)
   where
-    go : (ltb i j ≡ true) ⊎ (ltb i j ≡ false) → f i ≤ f j
-    go (inl p) = let q : f i < f j = rising-lt f n i j r (ltb-true i j p) b in omega arith
-    go (inr p) =
-        let q : j ≤ i = ltb-false i j p in
-        let e : i ≡ j = omega arith in
-        rw e (omega arith)
+    go : Dec (i < j) → f i ≤ f j
+    go (yes p) = let q : f i < f j = rising-lt f n i j r p b in omega arith
+    go (no p) = let e : i ≡ j = omega arith in rw e (omega arith)
 
--- ---- the test of 4, in its two halves
-
-abbrev high : ℕ → ℕ → List ℕ → ℕ → ℕ → Bool
-high v k d t l = leb v (groupAt k d t l)
-
-abbrev falls : ℕ → List ℕ → ℕ → ℕ → Bool
-falls k d t l = leb (groupAt k d t (l + 1)) (groupAt k d t l)
-
--- a row that falls, or stands still, somewhere
-pub row-falls : (v k : ℕ) (d : List ℕ) (t l : ℕ) → l + 1 < k → groupAt k d t (l + 1) ≤ groupAt k d t l → rowBad v k d t ≡ true
-unfolding rowBad
-row-falls v k d t l h p =
-    right-or (anyBelow (high v k d t) k) (anyBelow (falls k d t) (k - 1))
-    (any-true (falls k d t) (k - 1) l (omega arith) (le-leb (groupAt k d t (l + 1)) (groupAt k d t l) p))
-
--- in a row that ascends the last group decides
-pub row-rises : (v k : ℕ) (d : List ℕ) (t l : ℕ) → l + 1 ≡ k → Rising (groupAt k d t) k → rowBad v k d t ≡ leb v (groupAt k d t l)
-unfolding rowBad
-row-rises v k d t l h r = go (bool-either (leb v (groupAt k d t l)))
+rising-more : (f : ℕ → ℕ) (l : ℕ) → 1 ≤ l → Rising f l → f (l - 1) < f l → Rising f (l + 1)
+rising-more f l one r h = record { step = λ (j : ℕ) (b : j + 1 < l + 1). go j b (decLt (j + 1) l) }
   where
-    go : (leb v (groupAt k d t l) ≡ true) ⊎ (leb v (groupAt k d t l) ≡ false) → rowBad v k d t ≡ leb v (groupAt k d t l)
-    go (inl p) =
-        left-or (anyBelow (high v k d t) k) (anyBelow (falls k d t) (k - 1)) (any-true (high v k d t) k l (omega arith) p)
-        ∙ sym p
-    go (inr p) =
-        none-or (anyBelow (high v k d t) k) (anyBelow (falls k d t) (k - 1))
-        (none-any (high v k d t) k low) (none-any (falls k d t) (k - 1) rises)
-        ∙ sym p
-      where
-        low : (j : ℕ) → j < k → high v k d t j ≡ false
-        low j q =
-            let a : groupAt k d t l < v = leb-false v (groupAt k d t l) p in
-            let b : groupAt k d t j ≤ groupAt k d t l = rising-le (groupAt k d t) k j l r (omega arith) (omega arith) in
-            lt-leb v (groupAt k d t j) (omega arith)
+    go : (j : ℕ) → j + 1 < l + 1 → Dec (j + 1 < l) → f j < f (j + 1)
+    go j b (yes s) = r .step j s
+    go j b (no s) =
+        let e : j + 1 ≡ l = omega arith in
+        let p : j ≡ l - 1 = omega arith in
+        rw (e, p) h
 
-        rises : (j : ℕ) → j < k - 1 → falls k d t j ≡ false
-        rises j q = lt-leb (groupAt k d t (j + 1)) (groupAt k d t j) (r .step j (omega arith))
+module _ (v k : ℕ) (d : List ℕ) (t : ℕ) where
+  -- in a row that ascends the last group decides
+  row-rises : (l : ℕ) → l + 1 ≡ k → Rising (groupAt k d t) k → rowBad v k d t ≡ leb v (groupAt k d t l)
+  row-rises l h r = go (decLt (groupAt k d t l) v)
+    where
+      bad : groupAt k d t l < v → BadRow v k d t → ⊥
+      bad p (inl w) =
+          let q : groupAt k d t (w .0) ≤ groupAt k d t l = rising-le (groupAt k d t) k (w .0) l r (omega arith) (omega arith) in
+          omega arith
+      bad p (inr w) = let q = r .step (w .0) (w .1) in omega arith
 
--- what a row that 4 does not refuse is
-pub good-rising : (v k : ℕ) (d : List ℕ) (t : ℕ) → rowBad v k d t ≡ false → Rising (groupAt k d t) k
-unfolding rowBad
-good-rising v k d t h =
-    let p = or-none (anyBelow (high v k d t) k) (anyBelow (falls k d t) (k - 1)) h in
-    record {
-      step =
-          λ (l : ℕ) (q : l + 1 < k).
-          leb-false (groupAt k d t (l + 1)) (groupAt k d t l) (any-none (falls k d t) (k - 1) (p .1) l (omega arith));
-    }
+      go : Dec (groupAt k d t l < v) → rowBad v k d t ≡ leb v (groupAt k d t l)
+      go (yes p) =
+          never-true (rowBad v k d t) (λ (e : rowBad v k d t ≡ true). bad p (row-words v k d t e))
+          ∙ sym (lt-leb v (groupAt k d t l) p)
+      go (no p) =
+          let q : v ≤ groupAt k d t l = omega arith in
+          words-row v k d t (inl (l, omega arith, q)) ∙ sym (le-leb v (groupAt k d t l) q)
 
-pub good-below : (v k : ℕ) (d : List ℕ) (t l : ℕ) → rowBad v k d t ≡ false → l < k → groupAt k d t l < v
-unfolding rowBad
-good-below v k d t l h q =
-    let p = or-none (anyBelow (high v k d t) k) (anyBelow (falls k d t) (k - 1)) h in
-    leb-false v (groupAt k d t l) (any-none (high v k d t) k (p .0) l q)
+  -- what a row that 4 does not refuse is
+  pub good-rising : rowBad v k d t ≡ false → Rising (groupAt k d t) k
+  good-rising h = record { step = λ (l : ℕ) (q : l + 1 < k). go l q (decLt (groupAt k d t l) (groupAt k d t (l + 1))) }
+    where
+      go : (l : ℕ) → l + 1 < k → Dec (groupAt k d t l < groupAt k d t (l + 1)) → groupAt k d t l < groupAt k d t (l + 1)
+      go l q (yes p) = p
+      go l q (no p) = bool-not-both (rowBad v k d t) (words-row v k d t (inr (l, q, omega arith))) h
+
+  pub good-below : (l : ℕ) → rowBad v k d t ≡ false → l < k → groupAt k d t l < v
+  good-below l h q = go (decLt (groupAt k d t l) v)
+    where
+      go : Dec (groupAt k d t l < v) → groupAt k d t l < v
+      go (yes p) = p
+      go (no p) = bool-not-both (rowBad v k d t) (words-row v k d t (inl (l, q, omega arith))) h
 
 -- ---- the scan of one row: l groups are passed, and `last` is the last of them
 
@@ -118,17 +102,6 @@ passed-first k d t h =
       rising = record { step = λ (l : ℕ) (q : l + 1 < 1). absurd (omega arith) };
     }
 
-rising-more : (f : ℕ → ℕ) (l : ℕ) → 1 ≤ l → Rising f l → f (l - 1) < f l → Rising f (l + 1)
-rising-more f l one r h = record { step = λ (j : ℕ) (b : j + 1 < l + 1). go j b (bool-either (ltb (j + 1) l)) }
-  where
-    go : (j : ℕ) → j + 1 < l + 1 → (ltb (j + 1) l ≡ true) ⊎ (ltb (j + 1) l ≡ false) → f j < f (j + 1)
-    go j b (inl s) = r .step j (ltb-true (j + 1) l s)
-    go j b (inr s) =
-        let q : l ≤ j + 1 = ltb-false (j + 1) l s in
-        let e : j + 1 ≡ l = omega arith in
-        let p : j ≡ l - 1 = omega arith in
-        rw (e, p) h
-
 pub passed-next :
     (k : ℕ) (d : List ℕ) (t last l : ℕ) → Passed k d t last l → l < k → last < getD d (t * k + l) 0
     → Passed k d t (getD d (t * k + l) 0) (l + 1)
@@ -141,6 +114,7 @@ passed-next k d t last l p h q =
       rising = rising-more (groupAt k d t) l (p .low) (p .rising) (rw (p .is) at q);
     }
 
+-- a row that falls, or stands still, is bad
 pub passed-falls :
     (v k : ℕ) (d : List ℕ) (t last l : ℕ) → Passed k d t last l → l < k → getD d (t * k + l) 0 ≤ last
     → rowBad v k d t ≡ true
@@ -149,7 +123,7 @@ passed-falls v k d t last l p h q =
     let one : 1 ≤ l = p .low in
     let e : l - 1 + 1 ≡ l = omega arith in
     let w : groupAt k d t l ≤ groupAt k d t (l - 1) = rw (p .is) at q in
-    row-falls v k d t (l - 1) (omega arith) (rw e w)
+    words-row v k d t (inr (l - 1, omega arith, rw e w))
 
 pub passed-all : (v k : ℕ) (d : List ℕ) (t last l : ℕ) → Passed k d t last l → k ≤ l → rowBad v k d t ≡ leb v last
 passed-all v k d t last l p h =

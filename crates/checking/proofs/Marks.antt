@@ -1,8 +1,8 @@
 -- Counting pairs in the table: one pair, the pairs of a row, all rows. Assumes nothing.
-use Prim.Native.Nat.{ℕ, zero, suc, _+_, _-_, _*_, _/_, _%_, _≤_, _<_, min}
+use Prim.Native.Nat.{ℕ, _+_, _-_, _*_, _/_, _%_, _≤_, _<_, min}
 use mathlib.Core.Path.{_≡_, refl, sym, ap, _∙_}
 use mathlib.Core.Bool.{Bool, true, false, _&&_}
-use mathlib.Core.Logic.{_⊎_, inl, inr, ⊎-elim}
+use mathlib.Core.Logic.{_⊎_, inl, inr}
 use mathlib.Core.List.{List}
 use native.Mathlib.Numerals.{add-one}
 use native.Mathlib.Omega.{arith}
@@ -11,13 +11,14 @@ use lib.Dec.{eqb}
 use lib.ListN.{length, getD, set, length-set, replicate, length-replicate, getD-replicate}
 use lib.Seq.{getD-set-same, getD-set-other}
 use borrow.Author.Count.{below-more}
-use borrow.Author.Tests.{eq-eqb, ne-eqb, eqb-true, eqb-false}
-use Rattle.counting.specs.Counting.{countBelow, oneMoreIf, anyBelow}
+use borrow.Author.Tests.{ne-eqb, eqb-true, eqb-false}
+use Rattle.counting.specs.Counting.{oneMoreIf, anyBelow}
 use Rattle.counting.proofs.Bools.{bool-either, and-left-false, and-right-false}
 use Rattle.counting.proofs.Laws.{any-true, any-witness, any-none, none-any, count-zero, count-suc}
 use Rattle.design.specs.Design.{groupAt, names}
 use Rattle.design.specs.Rules.{rowsWith}
-use Rattle.checking.specs.Table.{markedIf, Marked, Counted, GoodRow, GoodRows}
+use Rattle.design.proofs.Rows.{holds}
+use Rattle.checking.specs.Table.{pairOf, pairFrom, markedIf, Marked, Counted, GoodRow, GoodRows}
 use Rattle.checking.proofs.Ascending.{Rising, rising-lt, rising-le, good-rising, good-below, row-within}
 
 -- ---- one pair
@@ -91,7 +92,7 @@ mark-none v f table h = record { size = refl; each = λ (a c : ℕ) (p : a < c) 
 
 -- group z is among the first m of row t
 abbrev among : ℕ → List ℕ → ℕ → ℕ → ℕ → Bool
-among k d t m z = anyBelow (λ (l : ℕ). eqb (groupAt k d t l) z) m
+among k d t m z = anyBelow (holds k d z t) m
 
 -- in a row that ascends a group stands once
 among-joined :
@@ -99,9 +100,6 @@ among-joined :
     → Joined (among k d t m z) (eqb (groupAt k d t m) z) (among k d t (m + 1) z)
 among-joined k d t m z r h = go (bool-either (eqb (groupAt k d t m) z)) (bool-either (among k d t m z))
   where
-    test : ℕ → Bool
-    test l = eqb (groupAt k d t l) z
-
     earlier : eqb (groupAt k d t m) z ≡ true → (j : ℕ) → j < m → eqb (groupAt k d t j) z ≡ false
     earlier p j q =
         let e : groupAt k d t m ≡ z = eqb-true (groupAt k d t m) z p in
@@ -114,20 +112,20 @@ among-joined k d t m z r h = go (bool-either (eqb (groupAt k d t m) z)) (bool-ei
         → Joined (among k d t m z) (eqb (groupAt k d t m) z) (among k d t (m + 1) z)
     go (inl p) w =
         inl (
-          none-any (λ (l : ℕ). eqb (groupAt k d t l) z) m (earlier p),
-          any-true (λ (l : ℕ). eqb (groupAt k d t l) z) (m + 1) m (omega arith) p ∙ sym p,
+          none-any (holds k d z t) m (earlier p),
+          any-true (holds k d z t) (m + 1) m (omega arith) p ∙ sym p,
         )
     go (inr p) (inl w) =
-        let x = any-witness (λ (l : ℕ). eqb (groupAt k d t l) z) m w in
+        let x = any-witness (holds k d z t) m w in
         inr (
           p,
-          any-true (λ (l : ℕ). eqb (groupAt k d t l) z) (m + 1) (x .0) (omega (arith, x .1)) (x .2) ∙ sym w,
+          any-true (holds k d z t) (m + 1) (x .0) (omega (arith, x .1)) (x .2) ∙ sym w,
         )
     go (inr p) (inr w) =
         inr (
           p,
-          none-any (λ (l : ℕ). eqb (groupAt k d t l) z) (m + 1)
-              (below-more _ _ (any-none (λ (l : ℕ). eqb (groupAt k d t l) z) m w) p)
+          none-any (holds k d z t) (m + 1)
+              (below-more _ _ (any-none (holds k d z t) m w) p)
               ∙ sym w,
         )
 
@@ -149,7 +147,7 @@ none-behind k d t l r h a c p = go (bool-either (eqb (groupAt k d t l) a))
     go (inr s) = and-left-false (eqb (groupAt k d t l) a) (among k d t (l + 1) c) s
     go (inl s) =
         and-right-false (eqb (groupAt k d t l) a) (among k d t (l + 1) c)
-        (none-any (λ (j : ℕ). eqb (groupAt k d t j) c) (l + 1) none)
+        (none-any (holds k d c t) (l + 1) none)
       where
         none : (j : ℕ) → j < l + 1 → eqb (groupAt k d t j) c ≡ false
         none j q =
@@ -215,7 +213,7 @@ marked-to-next v k d t l base m y n old new r h e i =
 
 pub marked-to-all :
     (v k : ℕ) (d : List ℕ) (t l base m : ℕ) (old new : List ℕ) → MarkedTo v k d t l base m old new → k ≤ m
-    → Marked v (λ (a c : ℕ). eqb (groupAt k d t l) a && names k d c t) old new
+    → Marked v (pairFrom k d t l) old new
 unfolding names
 marked-to-all v k d t l base m old new r h =
     let most : m ≤ k = r .most in
@@ -226,7 +224,7 @@ marked-to-all v k d t l base m old new r h =
 row-next :
     (v k : ℕ) (d : List ℕ) (t l : ℕ) (old mid new : List ℕ) → Rising (groupAt k d t) k → l < k
     → Marked v (λ (a c : ℕ). among k d t l a && names k d c t) old mid
-    → Marked v (λ (a c : ℕ). eqb (groupAt k d t l) a && names k d c t) mid new
+    → Marked v (pairFrom k d t l) mid new
     → Marked v (λ (a c : ℕ). among k d t (l + 1) a && names k d c t) old new
 row-next v k d t l old mid new r h p q =
     mark-then v _ _ _ old mid new p q
@@ -247,18 +245,19 @@ row-to-none v k d t table g =
     }
   where
     none : (a : ℕ) → among k d t 0 a ≡ false
-    none a = none-any (λ (l : ℕ). eqb (groupAt k d t l) a) 0 (λ (j : ℕ) (h : j < 0). absurd (omega arith))
+    none a = none-any (holds k d a t) 0 (λ (j : ℕ) (h : j < 0). absurd (omega arith))
 
 pub row-to-row :
     (v k : ℕ) (d : List ℕ) (t l : ℕ) (old new : List ℕ) → RowTo v k d t l old new → GoodRow v k t d new × (l < k)
 row-to-row v k d t l old new r =
-    let g = r .row in
-    (record { limits = g .limits; row-end = g .row-end; good = g .good; room = omega (arith, g .room, r .marks .size) },
-    r .most)
+    let g = r .row in (
+      record { limits = g .limits; row-end = g .row-end; good = g .good; room = omega (arith, g .room, r .marks .size) },
+      r .most,
+    )
 
 pub row-to-next :
     (v k : ℕ) (d : List ℕ) (t l : ℕ) (old mid new : List ℕ) → RowTo v k d t l old mid → l < k - 1
-    → Marked v (λ (a c : ℕ). eqb (groupAt k d t l) a && names k d c t) mid new → RowTo v k d t (l + 1) old new
+    → Marked v (pairFrom k d t l) mid new → RowTo v k d t (l + 1) old new
 row-to-next v k d t l old mid new r h s =
     record {
       row = r .row;
@@ -269,14 +268,14 @@ row-to-next v k d t l old mid new r h s =
 -- the last group has none behind it
 pub row-to-all :
     (v k : ℕ) (d : List ℕ) (t l : ℕ) (old new : List ℕ) → RowTo v k d t l old new → k - 1 ≤ l
-    → Marked v (λ (a c : ℕ). names k d a t && names k d c t) old new
+    → Marked v (pairOf k d t) old new
 unfolding names
 row-to-all v k d t l old new r h =
     let rising = good-rising v k d t (r .row .good) in
     let most : l < k = r .most in
     let e : l + 1 ≡ k = omega arith in
     let last : Marked v (λ (a c : ℕ). eqb (groupAt k d t l) a && among k d t k c) new new =
-      rw e at (mark-none v _ new (none-behind k d t l rising most)) in
+    rw e at (mark-none v _ new (none-behind k d t l rising most)) in
     rw e at (row-next v k d t l old new new rising most (r .marks) last)
 
 -- ---- all rows
@@ -287,7 +286,7 @@ counted-step false n = refl
 
 pub counted-next :
     (v k : ℕ) (d : List ℕ) (t : ℕ) (old new : List ℕ) → Counted v k t d old
-    → Marked v (λ (a c : ℕ). names k d a t && names k d c t) old new → Counted v k (t + 1) d new
+    → Marked v (pairOf k d t) old new → Counted v k (t + 1) d new
 unfolding rowsWith
 counted-next v k d t old new r s =
     record {
@@ -295,9 +294,9 @@ counted-next v k d t old new r s =
       each =
           λ (a c : ℕ) (p : a < c) (q : c < v).
           s .each a c p q
-          ∙ ap (markedIf (names k d a t && names k d c t)) (r .each a c p q)
-          ∙ counted-step (names k d a t && names k d c t) (rowsWith k t d a c)
-          ∙ sym (rw (add-one t, count-suc (λ (t : ℕ). names k d a t && names k d c t) t));
+          ∙ ap (markedIf (pairOf k d t a c)) (r .each a c p q)
+          ∙ counted-step (pairOf k d t a c) (rowsWith k t d a c)
+          ∙ sym (rw (add-one t, count-suc (λ (s : ℕ). pairOf k d s a c) t));
     }
 
 pub counted-row :
@@ -325,5 +324,5 @@ counted-none v k d n h =
           λ (a c : ℕ) (p : a < c) (q : c < v).
           let r : a < v = omega arith in
           let w : a * v + c < n = omega (arith, digits-lt r q) in
-          getD-replicate n (a * v + c) 0 0 w ∙ sym (rw (count-zero (λ (t : ℕ). names k d a t && names k d c t)));
+          getD-replicate n (a * v + c) 0 0 w ∙ sym (rw (count-zero (λ (s : ℕ). pairOf k d s a c)));
     }

@@ -7,6 +7,7 @@ use mathlib.Core.List.{List}
 use lib.ListN.{getD, length}
 use lib.Dec.{ltb, eqb}
 use Rattle.geometry.specs.Geometry.{Limits}
+use Rattle.design.specs.Design.{groupAt, names}
 use Rattle.design.specs.Rules.{rowBad, rowsWith}
 
 -- the list has b rows of k, for v groups: neither 2 nor 3 is due
@@ -25,6 +26,14 @@ pub record GoodRow (v k t : ℕ) (d table : List ℕ) : Type 0 where
   pub row-end : t * k + k ≤ length d
   pub good : rowBad v k d t ≡ false
   pub room : v * v ≤ length table
+
+-- row t names both groups
+abbrev pub pairOf : (k : ℕ) → List ℕ → (t a c : ℕ) → Bool
+pairOf k d t a c = names k d a t && names k d c t
+
+-- row t names both, the first of them at position l
+abbrev pub pairFrom : (k : ℕ) → List ℕ → (t l a c : ℕ) → Bool
+pairFrom k d t l a c = eqb (groupAt k d t l) a && names k d c t
 
 -- an entry that is counted up where the test passes, and stays at 2
 abbrev pub markedIf : Bool → ℕ → ℕ

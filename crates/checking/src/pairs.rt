@@ -1,15 +1,16 @@
 // Refusal 5: "a pair a<b not in exactly one row", at the lowest a·v+b. One table counts the rows of every pair.
 use crate::rows::wide;
+use geometry::Geometry;
 ghost use mathlib.Core.Path.{_≡_};
-ghost use mathlib.Core.Bool.{_&&_};
-ghost use Prim.Native.Nat.{ℕ, _+_, _*_, _≤_, _<_, min};
+ghost use Prim.Native.Nat.{_+_, _*_, _≤_, _<_, min};
 ghost use lib.ListN.{length};
-ghost use lib.Dec.{eqb};
 ghost use Rattle.counting.specs.Counting.{lowest};
 ghost use Rattle.geometry.specs.Geometry.{bOf};
-ghost use Rattle.design.specs.Design.{groupAt, names};
 ghost use Rattle.design.specs.Rules.{pairBad};
-ghost use Rattle.checking.specs.Table.{GoodRows, GoodRow, Marked, Counted, entryBad, numberBad};
+ghost use Rattle.checking.specs.Table.{GoodRows, GoodRow, pairOf, pairFrom, Marked, Counted, entryBad, numberBad};
+
+// An entry for each pair, at the most groups there may be.
+const ENTRIES: usize = (Geometry::V_MAX * Geometry::V_MAX) as usize;
 
 // A pair may stand in thousands of rows, and none, one and more are all that is asked.
 fn one_more(x: u8) -> u8
@@ -21,7 +22,7 @@ fn one_more(x: u8) -> u8
 // Counts the pairs of row t's group at position l with the groups after it.
 fn mark_with(table: &mut [u8], design: &[u16], v: usize, k: usize, t: usize, l: usize)
     requires { ⌜ GoodRow v k t (now design) (now table) × (l < k) ⌝ }
-    ensures { λ _. ⌜ Marked v (λ (a c : ℕ). eqb (groupAt k (now (design .entry)) t l) a && names k (now (design .entry)) c t) (now (table .entry)) (now (table .exit)) ⌝ }
+    ensures { λ _. ⌜ Marked v (pairFrom k (now (design .entry)) t l) (now (table .entry)) (now (table .exit)) ⌝ }
 {
     let at = t * k;
     let base = wide(design[at + l]) * v;
@@ -36,7 +37,7 @@ fn mark_with(table: &mut [u8], design: &[u16], v: usize, k: usize, t: usize, l: 
 // Counts the pairs of row t. The last group has none behind it.
 fn mark_row(table: &mut [u8], design: &[u16], v: usize, k: usize, t: usize)
     requires { ⌜ GoodRow v k t (now design) (now table) ⌝ }
-    ensures { λ _. ⌜ Marked v (λ (a c : ℕ). names k (now (design .entry)) a t && names k (now (design .entry)) c t) (now (table .entry)) (now (table .exit)) ⌝ }
+    ensures { λ _. ⌜ Marked v (pairOf k (now (design .entry)) t) (now (table .entry)) (now (table .exit)) ⌝ }
 {
     let last = k - 1;
     let mut l: usize = 0;
@@ -95,7 +96,7 @@ pub fn first_bad_pair(design: &[u16], v: usize, k: usize, b: usize) -> usize
     requires { ⌜ GoodRows v k b (now design) × (b ≡ bOf v k) ⌝ }
     ensures { λ r. ⌜ r ≡ lowest (pairBad v k (now (design .entry))) (v * v) ⌝ }
 {
-    let mut table = [0u8; 8281];
+    let mut table = [0u8; ENTRIES];
     mark_rows(&mut table[..], design, v, k, b);
     first_bad_in(&table[..], v)
 }

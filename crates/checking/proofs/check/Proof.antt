@@ -1,3 +1,4 @@
+-- `check`: each return is a law of the verdict of rules 2 to 5. Assumes nothing.
 use Prim.Native.Nat.{_*_, _≤_}
 use mathlib.Core.Path.{sym, _∙_}
 use native.Mathlib.Nat.{mul-le-mul}
@@ -9,34 +10,22 @@ use Rattle.geometry.proofs.Laws.{limits-of, b-bound}
 use Rattle.checking.proofs.Verdicts.{Shaped, verdict-2, verdict-3, shaped-limits, shaped-rows, verdict-4, shaped-good, verdict-5, verdict-fine}
 use Rattle.checking.proofs.check.Statement.{statement}
 use Rattle.checking.proofs.check.Tie as tie
-use Rattle.checking.proofs.check.Reads as reads
-use Rattle.checking.proofs.check.Lts as lts
-use Rattle.checking.proofs.list_fits.Reads as list-fits-reads
-use Rattle.checking.proofs.pairs.first_bad_pair.Reads as first-bad-pair-reads
-use Rattle.checking.proofs.rows.first_bad_row.Reads as first-bad-row-reads
-use Rattle.geometry.proofs.b_of.Reads as b-of-reads
-use Rattle.geometry.proofs.beyond_limits.Reads as beyond-limits-reads
 
--- src/lib.rt:32:8
 beyond-limits-requires : tie.Need-beyond-limits-requires
 beyond-limits-requires c κs = search needs
 
--- src/lib.rt:33:9
 returns : tie.Need-returns
 returns c = sym (verdict-2 _ _ _ (sym (c .before .beyond-limits .ensures) ∙ c .if1 .taken))
 
--- src/lib.rt:35:9
 list-fits-requires : tie.Need-list-fits-requires
 list-fits-requires c κs = limits-of _ _ (sym (c .before .beyond-limits .ensures) ∙ c .if1 .left)
 
--- src/lib.rt:36:9
 returns-2 : tie.Need-returns-2
 returns-2 c =
     sym
     (verdict-3 _ _ _ (sym (c .before .before .before .beyond-limits .ensures) ∙ c .before .before .if1 .left)
     (sym (c .before .list-fits .ensures) ∙ not-true _ (c .if2 .taken)))
 
--- src/lib.rt:40:13
 b-of-requires : tie.Need-b-of-requires
 b-of-requires c κs = limits-of _ _ (sym (c .before .before .before .beyond-limits .ensures) ∙ c .before .before .if1 .left)
 
@@ -48,26 +37,21 @@ shaped c =
       fits = sym (c .before .before .list-fits .ensures) ∙ not-false _ (c .before .if2 .left);
     }
 
--- src/lib.rt:40:13
 cast-b : tie.Need-cast-b
 cast-b c = search needs
 
--- src/lib.rt:41:9
 first-bad-row-requires : tie.Need-first-bad-row-requires
 first-bad-row-requires c κs = shaped-rows _ _ _ (shaped c) _ (c .b-of .ensures)
 
--- src/lib.rt:43:21
 cast-place : tie.Need-cast-place
 cast-place c = omega (arith, b-bound _ _ (shaped-limits _ _ _ (shaped (c .before .before))), c .before .before .b-of .ensures)
 
--- src/lib.rt:44:9
 returns-3 : tie.Need-returns-3
 returns-3 c =
     sym
     (verdict-4 _ _ _ (shaped (c .before .before)) _ _ (c .before .before .b-of .ensures) (c .before .first-bad-row .ensures)
     (c .if3 .taken))
 
--- src/lib.rt:46:9
 first-bad-pair-requires : tie.Need-first-bad-pair-requires
 first-bad-pair-requires c κs =
     (shaped-good _ _ _ (shaped (c .before .before)) _ _ (c .before .before .b-of .ensures) (c .before .first-bad-row .ensures) (c .if3 .left), c .before .before .b-of .ensures)
@@ -75,22 +59,18 @@ first-bad-pair-requires c κs =
 square : (c : tie.After-b-of) → c .before .before .before .before .before .before .args .v * c .before .before .before .before .before .before .args .v ≤ 8281
 square c = let l = shaped-limits _ _ _ (shaped c) in mul-le-mul (l .v-high) (l .v-high)
 
--- src/lib.rt:47:15
 mul-if4 : tie.Need-mul-if4
 mul-if4 c = omega (arith, square (c .before .before .before))
 
--- src/lib.rt:48:21
 cast-place-2 : tie.Need-cast-place-2
 cast-place-2 c = omega (arith, square (c .before .before .before .before))
 
--- src/lib.rt:49:9
 returns-4 : tie.Need-returns-4
 returns-4 c =
     sym
     (verdict-5 _ _ _ (shaped (c .before .before .before .before)) _ _ (c .before .before .before .before .b-of .ensures)
     (c .before .before .before .first-bad-row .ensures) _ (c .before .before .if3 .left) (c .before .first-bad-pair .ensures) (c .if4 .taken))
 
--- src/lib.rt:29:1
 returns-5 : tie.Need-returns-5
 returns-5 c =
     sym

@@ -1,3 +1,4 @@
+-- `list_fits`: b·k fits its type, and the tests are those of 3. Assumes nothing.
 use Prim.Native.Nat.{_*_, _≤_}
 use mathlib.Core.Path.{sym, _∙_}
 use native.Mathlib.Omega.{arith}
@@ -7,35 +8,25 @@ use Rattle.counting.proofs.Bools.{and-left-false}
 use Rattle.geometry.proofs.Laws.{entries-bound}
 use Rattle.checking.proofs.list_fits.Statement.{statement}
 use Rattle.checking.proofs.list_fits.Tie as tie
-use Rattle.checking.proofs.list_fits.Reads as reads
-use Rattle.checking.proofs.list_fits.Lts as lts
-use Rattle.geometry.proofs.b_of.Reads as b-of-reads
-use Rattle.geometry.proofs.is_whole.Reads as is-whole-reads
 
--- src/lib.rt:21:9
 is-whole-requires : tie.Need-is-whole-requires
 is-whole-requires c κs = search needs
 
--- src/lib.rt:22:9
 returns : tie.Need-returns
 returns c = sym (and-left-false _ _ (sym (c .before .is-whole .ensures) ∙ not-true _ (c .if1 .taken)))
 
--- src/lib.rt:24:19
 b-of-requires : tie.Need-b-of-requires
 b-of-requires c κs = search needs
 
 entries-fit : (c : tie.After-b-of) → c .b-of .result * c .before .before .before .args .k ≤ 8190
 entries-fit c = rw (c .b-of .ensures) (entries-bound _ _ (c .before .before .before .pre))
 
--- src/lib.rt:24:19
 mul-entries : tie.Need-mul-entries
 mul-entries c = omega (arith, entries-fit c)
 
--- src/lib.rt:25:10
 cast-result : tie.Need-cast-result
 cast-result c = omega (arith, entries-fit c)
 
--- src/lib.rt:17:1
 returns-2 : tie.Need-returns-2
 returns-2 c = rw (c .b-of .ensures, ← c .before .before .is-whole .ensures, not-false (c .before .before .is-whole .result) (c .before .if1 .left))
 

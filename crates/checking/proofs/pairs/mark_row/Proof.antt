@@ -1,12 +1,10 @@
+-- `mark_row`: the pairs of the first l groups with those behind them are counted. Assumes nothing.
 use Prim.Native.Nat.{_-_}
 use native.Mathlib.Omega.{arith}
 use borrow.Author.Needs.{needs}
 use Rattle.checking.proofs.Marks.{RowTo, row-to-none, row-to-row, row-to-next, row-to-all}
 use Rattle.checking.proofs.pairs.mark_row.Statement.{statement}
 use Rattle.checking.proofs.pairs.mark_row.Tie as tie
-use Rattle.checking.proofs.pairs.mark_row.Reads as reads
-use Rattle.checking.proofs.pairs.mark_row.Lts as lts
-use Rattle.checking.proofs.pairs.mark_with.Reads as mark-with-reads
 
 abbrev Inv-loop : tie.InvT-loop
 Inv-loop table₀ design v k t last l₀ table l = RowTo v k design t l table₀ table
@@ -14,36 +12,28 @@ Inv-loop table₀ design v k t last l₀ table l = RowTo v k design t l table₀
 abbrev μ-loop : tie.MeasureT-loop
 μ-loop table₀ design v k t last l₀ table l = k - l
 
--- src/pairs.rt:41:16
 sub-last : tie.Need-sub-last Inv-loop μ-loop
 sub-last c = search needs
 
--- src/pairs.rt:43:5
 loop-holds : tie.Need-loop-holds Inv-loop μ-loop
 loop-holds c = row-to-none _ _ _ _ _ (c .before .before .pre)
 
--- src/pairs.rt:44:9
 mark-with-requires : tie.Need-mark-with-requires Inv-loop μ-loop
 mark-with-requires c κs = row-to-row _ _ _ _ _ _ _ (c .before .before .loop .inv)
 
--- src/pairs.rt:45:9
 add-l : tie.Need-add-l Inv-loop μ-loop
 add-l c = search needs
 
--- src/pairs.rt:43:5
 loop-less : tie.Need-loop-less Inv-loop μ-loop
 loop-less c = search needs
 
--- src/pairs.rt:43:5
 loop-again : tie.Need-loop-again Inv-loop μ-loop
-loop-again c = 
+loop-again c =
     row-to-next _ _ _ _ _ _ _ _ (c .before .before .before .before .before .loop .inv) (c .before .before .before .before .loop-test .taken) (c .before .before .mark-with .ensures)
 
--- src/pairs.rt:37:1
 same-length : tie.Need-same-length Inv-loop μ-loop
 same-length c = search needs
 
--- src/pairs.rt:37:1
 returns : tie.Need-returns Inv-loop μ-loop
 returns c = row-to-all _ _ _ _ _ _ _ (c .before .loop .inv) (c .loop-test .left)
 

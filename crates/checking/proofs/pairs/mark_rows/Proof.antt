@@ -1,3 +1,4 @@
+-- `mark_rows`: the table counts the first t rows. Assumes nothing.
 use Prim.Native.Nat.{_-_, _≤_}
 use mathlib.Core.Path.{_≡_, refl, _∙_}
 use native.Mathlib.Omega.{arith}
@@ -7,9 +8,6 @@ use Rattle.checking.specs.Table.{Counted}
 use Rattle.checking.proofs.Marks.{counted-row, counted-next, counted-all}
 use Rattle.checking.proofs.pairs.mark_rows.Statement.{statement}
 use Rattle.checking.proofs.pairs.mark_rows.Tie as tie
-use Rattle.checking.proofs.pairs.mark_rows.Reads as reads
-use Rattle.checking.proofs.pairs.mark_rows.Lts as lts
-use Rattle.checking.proofs.pairs.mark_row.Reads as mark-row-reads
 
 abbrev Inv-loop : tie.InvT-loop
 Inv-loop table₀ design v k b t₀ table t = (t ≤ b) × (length table ≡ length table₀) × Counted v k t design table
@@ -17,34 +15,27 @@ Inv-loop table₀ design v k b t₀ table t = (t ≤ b) × (length table ≡ len
 abbrev μ-loop : tie.MeasureT-loop
 μ-loop table₀ design v k b t₀ table t = b - t
 
--- src/pairs.rt:54:5
 loop-holds : tie.Need-loop-holds Inv-loop μ-loop
 loop-holds c = (omega arith, refl, c .before .before .pre .1)
 
--- src/pairs.rt:55:9
 mark-row-requires : tie.Need-mark-row-requires Inv-loop μ-loop
 mark-row-requires c κs = counted-row _ _ _ _ _ _ (c .before .before .before .before .before .pre .0) (c .before .before .loop .inv .2) (c .before .loop-test .taken)
 
--- src/pairs.rt:56:9
 add-t : tie.Need-add-t Inv-loop μ-loop
 add-t c = search needs
 
--- src/pairs.rt:54:5
 loop-less : tie.Need-loop-less Inv-loop μ-loop
 loop-less c = search needs
 
--- src/pairs.rt:54:5
 loop-again : tie.Need-loop-again Inv-loop μ-loop
 loop-again c =
     let m = c .before .before .mark-row .ensures in
     let i = c .before .before .before .before .before .loop .inv in
     (omega arith, m .size ∙ i .1, counted-next _ _ _ _ _ _ (i .2) m)
 
--- src/pairs.rt:49:1
 same-length : tie.Need-same-length Inv-loop μ-loop
 same-length c = search needs
 
--- src/pairs.rt:49:1
 returns : tie.Need-returns Inv-loop μ-loop
 returns c = let i = c .before .loop .inv in counted-all _ _ _ _ _ _ (i .2) (i .0) (c .loop-test .left)
 

@@ -1,3 +1,4 @@
+-- `mark_with`: the pairs of the group at position l with those behind it and before position m are counted. Assumes nothing.
 use Prim.Native.Nat.{_+_, _-_, _*_, _<_}
 use native.Mathlib.Omega.{arith}
 use lib.ListN.{length}
@@ -6,10 +7,6 @@ use Rattle.design.specs.Design.{groupAt}
 use Rattle.checking.proofs.Marks.{MarkedTo, line-within, marked-to-none, marked-to-within, marked-to-next, marked-to-all}
 use Rattle.checking.proofs.pairs.mark_with.Statement.{statement}
 use Rattle.checking.proofs.pairs.mark_with.Tie as tie
-use Rattle.checking.proofs.pairs.mark_with.Reads as reads
-use Rattle.checking.proofs.pairs.mark_with.Lts as lts
-use Rattle.checking.proofs.pairs.one_more.Reads as one-more-reads
-use Rattle.checking.proofs.rows.wide.Reads as wide-reads
 
 abbrev Inv-loop : tie.InvT-loop
 Inv-loop table₀ design v k t l at base m₀ table m = MarkedTo v k design t l base m table₀ table
@@ -17,57 +14,45 @@ Inv-loop table₀ design v k t l at base m₀ table m = MarkedTo v k design t l 
 abbrev μ-loop : tie.MeasureT-loop
 μ-loop table₀ design v k t l at base m₀ table m = k - m
 
--- src/pairs.rt:26:14
 mul-at : tie.Need-mul-at Inv-loop μ-loop
 mul-at c = search needs
 
--- src/pairs.rt:27:28
 add-wide : tie.Need-add-wide Inv-loop μ-loop
 add-wide c = search needs
 
--- src/pairs.rt:27:21
 mul-wide : tie.Need-mul-wide Inv-loop μ-loop
 mul-wide c = search needs
 
--- src/pairs.rt:27:21
 shared-slice-read-wide : tie.Need-shared-slice-read-wide Inv-loop μ-loop
 shared-slice-read-wide c = search needs
 
--- src/pairs.rt:27:16
 wide-requires : tie.Need-wide-requires Inv-loop μ-loop
 wide-requires c κs = search needs
 
--- src/pairs.rt:27:16
 mul-base : tie.Need-mul-base Inv-loop μ-loop
 unfolding groupAt
 mul-base c =
     let p = c .before .before .before .before .pre in
     omega (arith, line-within _ _ _ _ _ _ _ (p .0) (p .1) (c .wide .ensures))
 
--- src/pairs.rt:28:17
 add-m : tie.Need-add-m Inv-loop μ-loop
 add-m c = search needs
 
--- src/pairs.rt:29:5
 loop-holds : tie.Need-loop-holds Inv-loop μ-loop
 unfolding groupAt
 loop-holds c =
     let p = c .before .before .before .before .pre in
     marked-to-none _ _ _ _ _ _ _ (p .0) (p .1) (c .wide .ensures)
 
--- src/pairs.rt:30:36
 add-wide-2 : tie.Need-add-wide-2 Inv-loop μ-loop
 add-wide-2 c = search needs
 
--- src/pairs.rt:30:29
 mul-wide-2 : tie.Need-mul-wide-2 Inv-loop μ-loop
 mul-wide-2 c = search needs
 
--- src/pairs.rt:30:29
 shared-slice-read-wide-2 : tie.Need-shared-slice-read-wide-2 Inv-loop μ-loop
 shared-slice-read-wide-2 c = search needs
 
--- src/pairs.rt:30:24
 wide-requires-2 : tie.Need-wide-requires-2 Inv-loop μ-loop
 wide-requires-2 c κs = search needs
 
@@ -81,37 +66,29 @@ within c = marked-to-within _ _ _ _ _ _ _ _ _ _ (c .before .before .before .loop
 add-p : tie.Need-add-p Inv-loop μ-loop
 add-p c = omega (arith, within c)
 
--- src/pairs.rt:31:29
 slice-read-one-more : tie.Need-slice-read-one-more Inv-loop μ-loop
 slice-read-one-more c = within (c .before)
 
--- src/pairs.rt:31:20
 one-more-requires : tie.Need-one-more-requires Inv-loop μ-loop
 one-more-requires c κs = search needs
 
--- src/pairs.rt:31:9
 slice-write-table : tie.Need-slice-write-table Inv-loop μ-loop
 slice-write-table c = within (c .before .before)
 
--- src/pairs.rt:32:9
 add-m-2 : tie.Need-add-m-2 Inv-loop μ-loop
 add-m-2 c = search needs
 
--- src/pairs.rt:29:5
 loop-less : tie.Need-loop-less Inv-loop μ-loop
 loop-less c = search needs
 
--- src/pairs.rt:29:5
 loop-again : tie.Need-loop-again Inv-loop μ-loop
 unfolding groupAt
 loop-again c =
     marked-to-next _ _ _ _ _ _ _ _ _ _ _ (c .before .before .before .before .before .loop .inv) (c .before .before .before .before .loop-test .taken) (c .before .before .wide2 .ensures) (c .one-more .ensures)
 
--- src/pairs.rt:22:1
 same-length : tie.Need-same-length Inv-loop μ-loop
 same-length c = search needs
 
--- src/pairs.rt:22:1
 returns : tie.Need-returns Inv-loop μ-loop
 returns c = marked-to-all _ _ _ _ _ _ _ _ _ (c .before .loop .inv) (c .loop-test .left)
 
