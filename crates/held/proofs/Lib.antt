@@ -6,3 +6,4 @@ pub mod Filling
 pub mod Table
 pub mod Answers
 pub mod Difference
+pub mod TwoResults
