@@ -96,7 +96,7 @@ pub extern "C" fn himzolven_check(v: u32, k: u32, design: &[u16]) -> Answer
     answer_of(checking::check(v, k, design))
 }
 
-fn sizes_of(x: Sized) -> SizesAnswer
+fn sizes_answer(x: Sized) -> SizesAnswer
     ensures { λ r. ⌜ r ≡ flatSizes (sizedOutcome x) ⌝ }
 {
     match x {
@@ -131,7 +131,7 @@ pub extern "C" fn himzolven_sizes(v: u32, k: u32, g: u32, u: u32, design: &[u16]
     ensures { λ r. ⌜ r
         ≡ flatSizes (answer (sizesRules (geometry v k g u) (now (design .entry))) (sizesOf (geometry v k g u))) ⌝ }
 {
-    sizes_of(sizes::sizes(Geometry { v, k, g, u }, design))
+    sizes_answer(sizes::sizes_of(Geometry { v, k, g, u }, design))
 }
 
 fn map_of(x: Mapped) -> MapAnswer

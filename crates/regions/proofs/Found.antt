@@ -64,7 +64,7 @@ module _ (G : Geometry) (d : List ℕ) (L : Laid G d) where
     part-lt : y / G .g < countBelow (names (G .k) d (x / G .g)) (tuplesOf G)
     unfolding unitsOf
     part-lt =
-        rw (each-group-in-r-rows (G .v) (G .k) (tuplesOf G) d (L .sound .limits .k-low) (L .design) (L .sound .r-whole) (x / G .g) group-lt)
+        rw (each-group-in-r-rows (G .v) (G .k) (tuplesOf G) d (L .sound .limits .k-low) (L .design) (x / G .g) group-lt)
         (div-lt-iff-lt-mul g-pos .1 hy)
 
     there : PartEntry (G .k) (tuplesOf G) d (x / G .g) (y / G .g)
