@@ -1,15 +1,14 @@
 -- The answers of the call that fills a list, case by case. Assumes nothing.
 use Prim.Native.Nat.{ℕ, _*_}
-use mathlib.Core.Path.{_≡_, refl, sym, _∙_}
+use mathlib.Core.Path.{_≡_, refl}
 use mathlib.Core.List.{List}
 use lib.ListN.{length}
-use lib.Dec.{eqb}
 use borrow.Author.Tests.{eq-eqb, ne-eqb}
 use Rattle.counting.specs.Lists.{listOf}
 use Rattle.refusal.specs.Refusal.{Outcome, refused, accepted, verdict, kept}
 use Rattle.held.specs.Held.{setFor, heldDesign, fillRules}
 use Rattle.held.specs.Developed.{developed}
-use Rattle.held.proofs.Table.{DifferenceSet, held-difference}
+use Rattle.held.proofs.Table.{held-difference}
 
 -- what the call's contract says of an answer o and the list at return
 abbrev pub Answered : (v : ℕ) (d : List ℕ) → Outcome (Unit {0}) → List ℕ → Type 0

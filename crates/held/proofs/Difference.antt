@@ -1,7 +1,7 @@
 -- A difference set, developed modulo v, is a design: the difference of two groups names the pair of members that they come
 -- from, and that pair the row. So the design of each held v is accepted. Assumes nothing.
-use Prim.Native.Nat.{ℕ, _+_, _-_, _*_, _/_, _%_, _<_, _≤_}
-use mathlib.Core.Path.{_≡_, refl, sym, ap, ap₂, _∙_, subst}
+use Prim.Native.Nat.{ℕ, _+_, _-_, _*_, _/_, _%_, _<_}
+use mathlib.Core.Path.{_≡_, sym, ap, ap₂, _∙_}
 use mathlib.Core.Bool.{Bool, true}
 use mathlib.Core.List.{List}
 use native.Mathlib.Nat.{add-mod, add-mod-mod, mod-add-mod, add-mod-right, mod-lt, mod-eq-of-lt, div-lt-iff-lt-mul}
@@ -19,10 +19,10 @@ use Rattle.geometry.specs.Geometry.{bOf}
 use Rattle.design.specs.Design.{groupAt, InRow, OneRow, Design}
 use Rattle.design.specs.Rules.{designRules}
 use Rattle.design.proofs.Accepted.{design-accepted}
-use Rattle.held.specs.Held.{setFor, heldGroup, heldDesign, shifted}
-use Rattle.held.specs.Developed.{Developable, developed}
+use Rattle.held.specs.Held.{setFor, heldGroup, heldDesign}
+use Rattle.held.specs.Developed.{developed}
 use Rattle.held.proofs.Rotation.{mod-low, mod-high, rotated, developed-at, member, place, listed, group-is}
-use Rattle.held.proofs.Table.{difference, pairsWith, DifferenceSet, held-difference}
+use Rattle.held.proofs.Table.{difference, DifferenceSet, held-difference}
 
 -- ---- modulo v
 
@@ -184,11 +184,13 @@ module _ (v : ℕ) (s : List ℕ) (S : DifferenceSet v s) where
         pairs = λ a c h hc. pair-row a c h hc (the-pair (c - a) (omega arith) (omega arith));
       }
 
+pub held-design : (v : ℕ) → (length (setFor v) ≡ 0 → ⊥) → Design v (length (setFor v)) (bOf v (length (setFor v))) (heldDesign v)
+unfolding heldDesign
+held-design v n = let S = held-difference v n in rw (S .rows) (developed-design v (setFor v) S)
+
 -- "The held lists: each of the seven is accepted"
 pub held-accepted :
     (v : ℕ) → (length (setFor v) ≡ 0 → ⊥) → verdict (designRules v (length (setFor v)) (heldDesign v)) ≡ accepted tt
-unfolding heldDesign
 held-accepted v n =
     let S = held-difference v n in
-    design-accepted v (length (setFor v)) (heldDesign v) (S .developable .limits) (S .whole-sizes)
-    (rw (S .rows) (developed-design v (setFor v) S))
+    design-accepted v (length (setFor v)) (heldDesign v) (S .developable .limits) (S .whole-sizes) (held-design v n)

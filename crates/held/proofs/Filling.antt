@@ -1,11 +1,11 @@
 -- A lent list filled from the front: what it holds after l entries are those of f, and then its old ones. Assumes nothing.
 use Prim.Native.Nat.{ℕ, zero, suc, _+_, _-_, _≤_, _<_}
-use mathlib.Core.Path.{_≡_, refl, sym, ap, ap₂, _∙_}
+use mathlib.Core.Path.{_≡_, refl, ap₂}
 use mathlib.Core.List.{List, [], _∷_, _++_, append-assoc, append-nil}
 use native.Mathlib.Nat.{add-zero, add-suc, le-refl}
 use native.Mathlib.Numerals.{add-one}
 use native.Mathlib.Omega.{arith}
-use lib.ListN.{length, getD, set, take, drop, length-append, length-drop}
+use lib.ListN.{length, getD, set, drop, length-append, length-drop}
 use lib.Seq.{drop-cons, drop-drop, drop-length, drop-at, take-at, set-at}
 use borrow.Rule.Slice.PartMut.{putMid}
 use Rattle.counting.specs.Lists.{listOf}

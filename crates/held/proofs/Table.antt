@@ -1,21 +1,22 @@
--- The seven sets are difference sets: one test, computed over the table, and one law that hands on what it says of the set of a
--- held v. Assumes nothing.
-use Prim.Native.Nat.{ℕ, zero, suc, _+_, _-_, _*_, _/_, _%_, _<_, _≤_}
-use mathlib.Core.Path.{_≡_, refl, sym, ap, _∙_}
-use mathlib.Core.Bool.{Bool, true, false, not, cond, _&&_, _||_}
-use mathlib.Core.Logic.{⊎-elim}
+-- The seven sets are difference sets: one test, computed over the table, and one law that hands on what it says of each of its
+-- rows. Assumes nothing.
+use Prim.Native.Nat.{ℕ, zero, suc, _+_, _-_, _*_, _/_, _%_, _<_}
+use mathlib.Core.Path.{_≡_, refl, sym, ap, subst₂}
+use mathlib.Core.Bool.{Bool, true, false, not, _&&_, _||_}
+use mathlib.Core.Logic.{_⊎_, inl, inr, ⊎-elim}
 use mathlib.Core.List.{List, [], _∷_}
 use native.Mathlib.Nat.{not-suc-le-zero}
 use native.Mathlib.Omega.{arith}
 use native.Mathlib.Decide.{decLt}
 use lib.ListN.{length, getD}
-use lib.Dec.{ltb, leb, eqb}
-use borrow.Author.Tests.{ltb-true, eqb-true, not-true}
-use Rattle.counting.specs.Counting.{countBelow, lowest}
-use Rattle.counting.proofs.Bools.{and-both, or-one}
+use lib.Dec.{ltb, eqb}
+use borrow.Author.Tests.{ltb-true, eqb-true, eq-eqb, ne-eqb, not-true}
+use Rattle.counting.specs.Counting.{countBelow}
+use Rattle.counting.proofs.Bools.{bool-either, and-both, or-one}
 use Rattle.geometry.proofs.Laws.{limits-of}
-use Rattle.geometry.specs.Geometry.{beyondLimits, whole, rOf, bOf, Limits}
+use Rattle.geometry.specs.Geometry.{beyondLimits, whole, rOf, bOf}
 use Rattle.held.specs.Held.{Held, table, lookup, setFor}
+use Rattle.held.specs.Reasons.{HeldSet}
 use Rattle.held.specs.Developed.{Developable}
 
 -- the test passes at each number below n
@@ -49,11 +50,12 @@ passes v s =
     && (allBelow (λ (j : ℕ). ltb (getD s j 0) (getD s (j + 1) 0)) (length s - 1)
     && allBelow (λ (x : ℕ). eqb x 0 || eqb (pairsWith v s x) 1) v))))
 
-abbrev allPass : List Held → Bool
-allPass [] = true
-allPass (x ∷ xs) = passes (x .v) (x .set) && allPass xs
+-- each row of the table passes, and their v ascend from above `low`
+abbrev allPass : ℕ → List Held → Bool
+allPass low [] = true
+allPass low (x ∷ xs) = ltb low (x .v) && (passes (x .v) (x .set) && allPass (x .v) xs)
 
-all-pass : allPass table ≡ true
+all-pass : allPass 0 table ≡ true
 unfolding countBelow beyondLimits whole rOf bOf
 all-pass = refl
 
@@ -96,20 +98,59 @@ is-set v s h =
         ⊎-elim (λ y. let z = eqb-true x 0 y in absurd (omega arith)) (λ y. eqb-true (pairsWith v s x) 1 y)
         (or-one (eqb x 0) (eqb (pairsWith v s x) 1) h)
 
-held-set : (t : List Held) → allPass t ≡ true → (v : ℕ) → (length (lookup t v) ≡ 0 → ⊥) → DifferenceSet v (lookup t v)
-held-set [] h v n = absurd (n refl)
-held-set (x ∷ t) h v n =
-    let w = and-both (passes (x .v) (x .set)) (allPass t) h in
-    go (eqb v (x .v)) refl (w .0) (held-set t (w .1) v) n
+-- what is held is the set that is found
+record Known (low : ℕ) (xs : List Held) (v : ℕ) (s : List ℕ) : Type 0 where
+  above : low < v
+  found : lookup xs v ≡ s
+  set : DifferenceSet v s
+
+known : (low : ℕ) (xs : List Held) (v : ℕ) (s : List ℕ) → allPass low xs ≡ true → HeldSet xs v s → Known low xs v s
+known low [] v s h w = absurd w
+known low (x ∷ xs) v s h w =
+    let a = and-both (ltb low (x .v)) (passes (x .v) (x .set) && allPass (x .v) xs) h in
+    let b = and-both (passes (x .v) (x .set)) (allPass (x .v) xs) (a .1) in
+    go (ltb-true low (x .v) (a .0)) (b .0) w (known (x .v) xs v s (b .1))
   where
     go :
-        (b : Bool) → eqb v (x .v) ≡ b → passes (x .v) (x .set) ≡ true
-        → ((length (lookup t v) ≡ 0 → ⊥) → DifferenceSet v (lookup t v))
-        → (length (cond b (x .set) (lookup t v)) ≡ 0 → ⊥) → DifferenceSet v (cond b (x .set) (lookup t v))
-    go true e y rest n = rw (eqb-true v (x .v) e) (is-set (x .v) (x .set) y)
-    go false e y rest n = rest n
+        low < x .v → passes (x .v) (x .set) ≡ true → HeldSet (x ∷ xs) v s
+        → (HeldSet xs v s → Known (x .v) xs v s) → Known low (x ∷ xs) v s
+    go l y (inl e) rest =
+        record {
+          above = rw (e .0) at l;
+          found = rw (eq-eqb v (x .v) (sym (e .0))) (e .1);
+          set = subst₂ (λ (n : ℕ) (t : List ℕ). DifferenceSet n t) (e .0) (e .1) (is-set (x .v) (x .set) y);
+        }
+    go l y (inr e) rest =
+        let r = rest e in
+        record {
+          above = omega (arith, r .above);
+          found = rw (ne-eqb v (x .v) (λ q. omega (arith, r .above))) (r .found);
+          set = r .set;
+        }
 
--- the set of a held v is a difference set
-pub held-difference : (v : ℕ) → (length (setFor v) ≡ 0 → ⊥) → DifferenceSet v (setFor v)
+-- and what is found is held, unless it is empty
+found-held : (xs : List Held) (v : ℕ) → (lookup xs v ≡ []) ⊎ HeldSet xs v (lookup xs v)
+found-held [] v = inl refl
+found-held (x ∷ xs) v = go (bool-either (eqb v (x .v))) (found-held xs v)
+  where
+    go :
+        (eqb v (x .v) ≡ true) ⊎ (eqb v (x .v) ≡ false) → (lookup xs v ≡ []) ⊎ HeldSet xs v (lookup xs v)
+        → (lookup (x ∷ xs) v ≡ []) ⊎ HeldSet (x ∷ xs) v (lookup (x ∷ xs) v)
+    go (inl e) r = inr (inl (sym (eqb-true v (x .v) e), rw e))
+    go (inr e) (inl r) = inl (rw e r)
+    go (inr e) (inr r) = inr (inr (rw e r))
+
+pub held-found : (v : ℕ) (s : List ℕ) → HeldSet table v s → setFor v ≡ s
 unfolding setFor
-held-difference v n = held-set table all-pass v n
+held-found v s h = known 0 table v s all-pass h .found
+
+pub set-held : (v : ℕ) → (length (setFor v) ≡ 0 → ⊥) → HeldSet table v (setFor v)
+unfolding setFor
+set-held v n = ⊎-elim (λ e. absurd (n (ap length e))) (λ h. h) (found-held table v)
+
+-- each set of the table is a difference set
+pub held-set : (v : ℕ) (s : List ℕ) → HeldSet table v s → DifferenceSet v s
+held-set v s h = known 0 table v s all-pass h .set
+
+pub held-difference : (v : ℕ) → (length (setFor v) ≡ 0 → ⊥) → DifferenceSet v (setFor v)
+held-difference v n = held-set v (setFor v) (set-held v n)

@@ -1,4 +1,4 @@
--- "That two results allowed by it are equal is itself proved" (01), over the contract of `fill` itself. Assumes nothing.
+-- "That two results allowed by it are equal is itself proved" (01), over the contracts of `fill` and `set_size` themselves. Assumes nothing.
 use Prim.Native.Nat.{ℕ}
 use mathlib.Core.Path.{_≡_, refl, sym, _∙_}
 use mathlib.Core.List.{List}
@@ -11,6 +11,7 @@ use Rattle.refusal.specs.Refusal.{Outcome, refused, accepted, verdict, kept, ch
 use Rattle.refusal.proofs.Same.{same-checked}
 use Rattle.held.specs.Held.{heldDesign, fillRules}
 use Rattle.held.proofs.fill.Reads as fill
+use Rattle.held.proofs.set_size.Reads as set-size
 
 -- what the contract allows for v and a lent list: the answer, and the list at return
 abbrev pub Allowed : Lfts 1 → ℕ → RefT (List ℕ) → Checked → RefT (List ℕ) → Type 0
@@ -34,3 +35,6 @@ some-result κs v design =
     let o = verdict (fillRules v (length (now design))) in
     let w = checked o in
     (w .0, at-last design (kept o (heldDesign v) (now design)), (w .1, refl))
+
+pub two-sizes : (κs : Lfts 0) (v r s : ℕ) → set-size.Post κs (v, tt) r (v, tt) → set-size.Post κs (v, tt) s (v, tt) → r ≡ s
+two-sizes κs v r s p q = p ∙ sym q

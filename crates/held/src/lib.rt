@@ -25,13 +25,13 @@ const SETS: [[u16; 10]; 7] = [
 ];
 
 // A row of the table: the set is the first `length` members.
-pub struct Padded {
-    pub members: [u16; 10],
-    pub length: usize,
+struct Padded {
+    members: [u16; 10],
+    length: usize,
 }
 
 // The set held for v, and one of no members where none is.
-pub fn padded_for(v: u32) -> Padded
+fn padded_for(v: u32) -> Padded
     ensures { λ r. ⌜ (r .length ≡ length (setFor v)) × (take (r .length) (r .members) ≡ setFor v) ⌝ }
 {
     let mut i: usize = 0;
@@ -50,7 +50,7 @@ pub fn padded_for(v: u32) -> Padded
 }
 
 // The first member that reaches v where i is added to it, and the set's length where none does.
-pub fn first_past(v: u16, set: &[u16], i: u16) -> usize
+fn first_past(v: u16, set: &[u16], i: u16) -> usize
     requires { ⌜ Developable v (now set) × (i < v) ⌝ }
     ensures { λ r. ⌜ r ≡ firstPast v (now (set .entry)) i ⌝ }
 {
@@ -65,7 +65,7 @@ pub fn first_past(v: u16, set: &[u16], i: u16) -> usize
 }
 
 // The l-th lowest group of row i: the members from `past` on come first, less v, and then the others.
-pub fn group_of(v: u16, set: &[u16], i: u16, past: usize, l: usize) -> u16
+fn group_of(v: u16, set: &[u16], i: u16, past: usize, l: usize) -> u16
     requires { ⌜ Developable v (now set) × (i < v) × (past ≡ firstPast v (now set) i) × (l < length (now set)) ⌝ }
     ensures { λ r. ⌜ r ≡ heldGroup v (now (set .entry)) i l ⌝ }
 {
@@ -77,7 +77,7 @@ pub fn group_of(v: u16, set: &[u16], i: u16, past: usize, l: usize) -> u16
 }
 
 // Row i of the design, into a list of the set's length.
-pub fn develop_row(v: u16, set: &[u16], i: u16, row: &mut [u16])
+fn develop_row(v: u16, set: &[u16], i: u16, row: &mut [u16])
     requires { ⌜ Developable v (now set) × (i < v) × (length (now row) ≡ length (now set)) ⌝ }
     ensures { λ r. ⌜ now (row .exit) ≡ listOf (heldGroup v (now (set .entry)) i) (length (now (set .entry))) ⌝ }
 {
@@ -90,7 +90,7 @@ pub fn develop_row(v: u16, set: &[u16], i: u16, row: &mut [u16])
 }
 
 // The design of a set, row after row.
-pub fn develop(v: u16, set: &[u16], design: &mut [u16])
+fn develop(v: u16, set: &[u16], design: &mut [u16])
     requires { ⌜ Developable v (now set) × (length (now design) ≡ v * length (now set)) ⌝ }
     ensures { λ r. ⌜ now (design .exit) ≡ listOf (developed v (now (set .entry))) (v * length (now (set .entry))) ⌝ }
 {
@@ -102,6 +102,14 @@ pub fn develop(v: u16, set: &[u16], design: &mut [u16])
         at = end;
         i += 1;
     }
+}
+
+// k for a held v: how many members its set has, and 0 where no set is held for v.
+pub fn set_size(v: u32) -> usize
+    ensures { λ r. ⌜ r ≡ length (setFor v) ⌝ }
+{
+    let held = padded_for(v);
+    held.length
 }
 
 // "A call fills a lent list with the design of a held v" (01): refusal 1 where no set is held for v, 3 where the list's

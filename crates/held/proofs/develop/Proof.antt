@@ -11,9 +11,6 @@ use Rattle.held.proofs.Rotation.{developed-at}
 use Rattle.held.proofs.Filling.{Filled, filled-none, filled-part, filled-all}
 use Rattle.held.proofs.develop.Statement.{statement}
 use Rattle.held.proofs.develop.Tie as tie
-use Rattle.held.proofs.develop.Reads as reads
-use Rattle.held.proofs.develop.Lts as lts
-use Rattle.held.proofs.develop_row.Reads as develop-row-reads
 
 abbrev Inv-loop : tie.InvT-loop
 Inv-loop v set design₀ i₀ at₀ design i at =
@@ -37,44 +34,34 @@ row-fits c =
       c .before .before .before .before .pre .1,
     )
 
--- src/lib.rt:98:5
 loop-holds : tie.Need-loop-holds Inv-loop μ-loop
 loop-holds c = (omega arith, omega arith, omega arith, filled-none _ _)
 
--- src/lib.rt:99:19
 add-end : tie.Need-add-end Inv-loop μ-loop
 add-end c = omega (arith, row-fits c)
 
--- src/lib.rt:100:32
 mul-develop-row : tie.Need-mul-develop-row Inv-loop μ-loop
 mul-develop-row c = omega (arith, row-fits c)
 
--- src/lib.rt:100:32
 sub-develop-row : tie.Need-sub-develop-row Inv-loop μ-loop
 sub-develop-row c = omega (arith, row-fits c)
 
--- src/lib.rt:100:32
 part-develop-row-start : tie.Need-part-develop-row-start Inv-loop μ-loop
 part-develop-row-start c = omega (arith, row-fits c)
 
--- src/lib.rt:100:32
 part-develop-row-end : tie.Need-part-develop-row-end Inv-loop μ-loop
 part-develop-row-end c = omega (arith, row-fits c)
 
--- src/lib.rt:100:9
 develop-row-requires : tie.Need-develop-row-requires Inv-loop μ-loop
 develop-row-requires c κs =
     (c .before .before .before .before .before .pre .0, c .before .loop-test .taken, c .develop-row-arg .given .2 ∙ omega arith)
 
--- src/lib.rt:102:9
 add-i : tie.Need-add-i Inv-loop μ-loop
 add-i c = search needs
 
--- src/lib.rt:98:5
 loop-less : tie.Need-loop-less Inv-loop μ-loop
 loop-less c = search needs
 
--- src/lib.rt:98:5
 loop-again : tie.Need-loop-again Inv-loop μ-loop
 loop-again c =
     let p = c .before .before .before .before .before .loop in
@@ -87,11 +74,9 @@ loop-again c =
           (c .before .before .develop-row .ensures) (p .inv .3),
     )
 
--- src/lib.rt:92:1
 same-length : tie.Need-same-length Inv-loop μ-loop
 same-length c = search needs
 
--- src/lib.rt:92:1
 returns : tie.Need-returns Inv-loop μ-loop
 returns c =
     let p = c .before .loop in

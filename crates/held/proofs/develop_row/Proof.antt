@@ -8,10 +8,6 @@ use Rattle.held.specs.Held.{heldGroup}
 use Rattle.held.proofs.Filling.{Filled, filled-none, filled-more, filled-length, filled-all}
 use Rattle.held.proofs.develop_row.Statement.{statement}
 use Rattle.held.proofs.develop_row.Tie as tie
-use Rattle.held.proofs.develop_row.Reads as reads
-use Rattle.held.proofs.develop_row.Lts as lts
-use Rattle.held.proofs.first_past.Reads as first-past-reads
-use Rattle.held.proofs.group_of.Reads as group-of-reads
 
 abbrev Inv-loop : tie.InvT-loop
 Inv-loop v set i row₀ past l₀ row l = (l ≤ length set) × Filled (heldGroup v set i) row₀ l row
@@ -19,45 +15,35 @@ Inv-loop v set i row₀ past l₀ row l = (l ≤ length set) × Filled (heldGrou
 abbrev μ-loop : tie.MeasureT-loop
 μ-loop v set i row₀ past l₀ row l = length set - l
 
--- src/lib.rt:83:9
 first-past-requires : tie.Need-first-past-requires Inv-loop μ-loop
 first-past-requires c κs = search needs
 
--- src/lib.rt:85:5
 loop-holds : tie.Need-loop-holds Inv-loop μ-loop
 loop-holds c = (omega arith, filled-none _ _)
 
--- src/lib.rt:86:18
 group-of-requires : tie.Need-group-of-requires Inv-loop μ-loop
 group-of-requires c κs = search needs
 
--- src/lib.rt:86:9
 mul-row : tie.Need-mul-row Inv-loop μ-loop
 mul-row c = search needs
 
--- src/lib.rt:86:9
 slice-write-row : tie.Need-slice-write-row Inv-loop μ-loop
 slice-write-row c =
     let p = c .before .before .loop in omega (arith, filled-length _ _ (p .l) (p .row) (omega arith) (p .inv .1))
 
--- src/lib.rt:87:9
 add-l : tie.Need-add-l Inv-loop μ-loop
 add-l c = search needs
 
--- src/lib.rt:85:5
 loop-less : tie.Need-loop-less Inv-loop μ-loop
 loop-less c = search needs
 
--- src/lib.rt:85:5
 loop-again : tie.Need-loop-again Inv-loop μ-loop
 loop-again c =
     (omega arith, filled-more _ _ (c .before .before .loop .l) _ _ (omega arith) (c .group-of .ensures) (c .before .before .loop .inv .1))
 
--- src/lib.rt:79:1
 same-length : tie.Need-same-length Inv-loop μ-loop
 same-length c = filled-length _ _ (c .before .loop .l) _ (omega arith) (c .before .loop .inv .1)
 
--- src/lib.rt:79:1
 returns : tie.Need-returns Inv-loop μ-loop
 returns c =
     filled-all _ _ _ (c .before .loop .l) _ (c .before .before .before .before .before .pre .2) (omega arith) (c .before .loop .inv .1)

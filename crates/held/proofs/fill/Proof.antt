@@ -10,10 +10,6 @@ use Rattle.held.proofs.Table.{DifferenceSet, held-difference}
 use Rattle.held.proofs.Answers.{not-held, other-length, fills}
 use Rattle.held.proofs.fill.Statement.{statement}
 use Rattle.held.proofs.fill.Tie as tie
-use Rattle.held.proofs.fill.Reads as reads
-use Rattle.held.proofs.fill.Lts as lts
-use Rattle.held.proofs.develop.Reads as develop-reads
-use Rattle.held.proofs.padded_for.Reads as padded-for-reads
 
 -- past the first test a set is held for v
 is-held : (c : tie.Else1) → length (setFor (c .before .before .before .args .v)) ≡ 0 → ⊥
@@ -29,55 +25,45 @@ is-long :
     ≡ c .before .before .before .before .args .v * length (setFor (c .before .before .before .before .args .v))
 is-long c = c .if2 .left ∙ ap (λ (k : ℕ). c .before .before .before .before .args .v * k) (c .before .before .padded-for .ensures .0)
 
--- src/lib.rt:111:9
 padded-for-requires : tie.Need-padded-for-requires
 padded-for-requires c κs = search needs
 
--- src/lib.rt:114:9
 returns : tie.Need-returns
 returns c =
     not-held (c .before .before .before .args .v) (c .before .before .before .args .design .now)
     (sym (c .before .padded-for .ensures .0) ∙ c .if1 .taken)
 
--- src/lib.rt:119:24
 mul-if2 : tie.Need-mul-if2
 mul-if2 c =
     let L = the-set c .developable .limits in
     omega (arith, mul-le-mul (L .v-high) (L .k-high), ap (λ (k : ℕ). c .before .before .before .args .v * k) (c .before .padded-for .ensures .0))
 
--- src/lib.rt:120:9
 returns-2 : tie.Need-returns-2
 returns-2 c =
     let a = c .before .before .before .before .args in
     other-length (a .v) (a .design .now) (is-held (c .before))
     (λ e. c .if2 .taken (e ∙ ap (λ (k : ℕ). a .v * k) (sym (c .before .before .padded-for .ensures .0))))
 
--- src/lib.rt:126:13
 cast-develop : tie.Need-cast-develop
 cast-develop c = omega (arith, the-set (c .before .before) .developable .limits .v-high)
 
--- src/lib.rt:126:23
 array-share-prefix-members : tie.Need-array-share-prefix-members
 array-share-prefix-members c =
     let p = c .before .before .before .padded-for .ensures in
     omega (arith, simp length-take at (ap length (p .1)), p .0)
 
--- src/lib.rt:126:23
 slice-aggregate-develop : tie.Need-slice-aggregate-develop
 slice-aggregate-develop c =
     let p = c .before .before .before .before .padded-for .ensures in p .0 ∙ ap length (sym (p .1))
 
--- src/lib.rt:126:5
 develop-requires : tie.Need-develop-requires
 develop-requires c κs =
     let p = c .before .before .before .before .before .padded-for .ensures in
     rw (p .1) (the-set (c .before .before .before .before) .developable, is-long (c .before .before .before))
 
--- src/lib.rt:108:1
 same-length : tie.Need-same-length
 same-length c = search needs
 
--- src/lib.rt:108:1
 returns-3 : tie.Need-returns-3
 returns-3 c =
     let d = c .before .before .before .before .before .before in

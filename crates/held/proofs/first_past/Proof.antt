@@ -1,6 +1,6 @@
 -- `held::first_past` meets its contract. The loop's invariant: the members passed stay below v. Assumes nothing.
 use Prim.Native.Nat.{ℕ, _≤_, _<_, _+_, _-_}
-use mathlib.Core.Path.{_≡_, _∙_, subst}
+use mathlib.Core.Path.{_≡_, _∙_}
 use native.Mathlib.Omega.{arith}
 use lib.ListN.{length, getD}
 use borrow.Author.Needs.{needs}
@@ -8,8 +8,6 @@ use borrow.Author.Count.{below-none, below-more}
 use Rattle.held.proofs.Rotation.{past-is, past-none}
 use Rattle.held.proofs.first_past.Statement.{statement}
 use Rattle.held.proofs.first_past.Tie as tie
-use Rattle.held.proofs.first_past.Reads as reads
-use Rattle.held.proofs.first_past.Lts as lts
 
 abbrev Inv-loop : tie.InvT-loop
 Inv-loop v set i j₀ j = (j ≤ length set) × ((m : ℕ) → m < j → getD set m 0 + i < v)
@@ -17,41 +15,32 @@ Inv-loop v set i j₀ j = (j ≤ length set) × ((m : ℕ) → m < j → getD se
 abbrev μ-loop : tie.MeasureT-loop
 μ-loop v set i j₀ j = length set - j
 
--- src/lib.rt:57:5
 loop-holds : tie.Need-loop-holds Inv-loop μ-loop
 loop-holds c = (omega arith, below-none _)
 
--- src/lib.rt:58:17
 mul-if1 : tie.Need-mul-if1 Inv-loop μ-loop
 mul-if1 c = search needs
 
--- src/lib.rt:58:17
 shared-slice-read-if1 : tie.Need-shared-slice-read-if1 Inv-loop μ-loop
 shared-slice-read-if1 c = search needs
 
--- src/lib.rt:58:17
 add-if1 : tie.Need-add-if1 Inv-loop μ-loop
 add-if1 c = omega (arith, c .before .before .before .pre .0 .below (c .before .before .loop .j) (c .before .loop-test .taken))
 
--- src/lib.rt:59:13
 returns : tie.Need-returns Inv-loop μ-loop
 returns c =
     past-is _ _ _ (c .before .before .before .loop .j) (c .before .before .loop-test .taken) (c .if1 .taken)
     (c .before .before .before .loop .inv .1)
 
--- src/lib.rt:61:9
 add-j : tie.Need-add-j Inv-loop μ-loop
 add-j c = search needs
 
--- src/lib.rt:57:5
 loop-less : tie.Need-loop-less Inv-loop μ-loop
 loop-less c = search needs
 
--- src/lib.rt:57:5
 loop-again : tie.Need-loop-again Inv-loop μ-loop
 loop-again c = (search needs, below-more _ _ (c .before .before .before .loop .inv .1) (c .if1 .left))
 
--- src/lib.rt:52:1
 returns-2 : tie.Need-returns-2 Inv-loop μ-loop
 returns-2 c =
     let e : c .before .loop .j ≡ length (c .before .before .args .set .now) = omega arith in

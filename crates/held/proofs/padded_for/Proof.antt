@@ -1,14 +1,14 @@
+-- `held::padded_for` meets its contract. The loop's invariant: what is found from row i on is what is found in the whole table.
+-- Assumes nothing.
 use Prim.Native.Nat.{_≤_, _-_}
-use mathlib.Core.Path.{_≡_, refl, ap, _∙_}
+use mathlib.Core.Path.{_≡_, refl, _∙_}
 use native.Mathlib.Omega.{arith}
-use lib.ListN.{length, drop}
+use lib.ListN.{drop}
 use borrow.Author.Needs.{needs}
 use Rattle.held.specs.Held.{table, lookup, setFor}
 use Rattle.held.proofs.Padding.{stops, passes, ends}
 use Rattle.held.proofs.padded_for.Statement.{statement}
 use Rattle.held.proofs.padded_for.Tie as tie
-use Rattle.held.proofs.padded_for.Reads as reads
-use Rattle.held.proofs.padded_for.Lts as lts
 
 abbrev Inv-loop : tie.InvT-loop
 Inv-loop v i₀ i = (i ≤ 7) × (lookup (drop i table) v ≡ setFor v)
@@ -16,50 +16,39 @@ Inv-loop v i₀ i = (i ≤ 7) × (lookup (drop i table) v ≡ setFor v)
 abbrev μ-loop : tie.MeasureT-loop
 μ-loop v i₀ i = 7 - i
 
--- src/lib.rt:37:5
 loop-holds : tie.Need-loop-holds Inv-loop μ-loop
 unfolding setFor
 loop-holds c = (omega arith, refl)
 
--- src/lib.rt:38:12
 mul-if1 : tie.Need-mul-if1 Inv-loop μ-loop
 mul-if1 c = search needs
 
--- src/lib.rt:38:12
 array-read-if1 : tie.Need-array-read-if1 Inv-loop μ-loop
 array-read-if1 c = search needs
 
--- src/lib.rt:39:27
 mul-members : tie.Need-mul-members Inv-loop μ-loop
 mul-members c = search needs
 
--- src/lib.rt:39:27
 array-copy-out-members : tie.Need-array-copy-out-members Inv-loop μ-loop
 array-copy-out-members c = search needs
 
--- src/lib.rt:40:26
 mul-length : tie.Need-mul-length Inv-loop μ-loop
 mul-length c = search needs
 
--- src/lib.rt:40:26
 array-read-length : tie.Need-array-read-length Inv-loop μ-loop
 array-read-length c = search needs
 
--- src/lib.rt:41:13
 returns : tie.Need-returns Inv-loop μ-loop
 returns c =
     stops table _ (c .before .before .before .loop .i) _ (c .before .before .before .loop .inv .1)
     (c .before .before .loop-test .taken) (c .before .if1 .taken)
 
--- src/lib.rt:43:9
 add-i : tie.Need-add-i Inv-loop μ-loop
 add-i c = search needs
 
--- src/lib.rt:37:5
 loop-less : tie.Need-loop-less Inv-loop μ-loop
 loop-less c = search needs
 
--- src/lib.rt:37:5
 loop-again : tie.Need-loop-again Inv-loop μ-loop
 loop-again c = (
   omega arith,
@@ -67,7 +56,6 @@ loop-again c = (
       ∙ c .before .before .loop .inv .1,
 )
 
--- src/lib.rt:33:1
 returns-2 : tie.Need-returns-2 Inv-loop μ-loop
 returns-2 c = ends table _ (c .before .loop .i) _ (c .before .loop .inv .1) (c .loop-test .left)
 
