@@ -13,10 +13,10 @@ use lib.ListN.{length, getD}
 use borrow.Author.Tests.{le-leb, lt-leb}
 use Rattle.counting.proofs.Bools.{bool-not-both}
 use Rattle.design.specs.Design.{groupAt}
-use Rattle.design.specs.Rules.{rowBad}
-use Rattle.design.specs.Reasons.{BadRow}
-use Rattle.design.proofs.Firsts.{never-true}
-use Rattle.design.proofs.Words.{row-words, words-row}
+use Rattle.checking.specs.Rules.{rowBad}
+use Rattle.checking.specs.Reasons.{BadRow}
+use Rattle.refusal.proofs.Firsts.{never-true}
+use Rattle.checking.proofs.Words.{row-words, words-row}
 use Rattle.checking.specs.Table.{Rows}
 
 -- the first n numbers ascend

@@ -15,7 +15,7 @@ use Rattle.counting.specs.Counting.{lowest}
 use Rattle.counting.proofs.Bools.{bool-either, both-and, and-left-false, and-right-false, not-is-true, not-is-false}
 use Rattle.counting.proofs.Laws.{lowest-le, lowest-holds, lowest-before, lowest-same}
 use Rattle.geometry.specs.Geometry.{bOf}
-use Rattle.design.specs.Rules.{rowsWith, pairBad}
+use Rattle.checking.specs.Rules.{rowsWith, pairBad}
 use Rattle.checking.specs.Table.{Counted, entryBad, numberBad}
 use Rattle.checking.proofs.Scan.{Scanned, scanned-found}
 

@@ -6,8 +6,8 @@ use denote.Ref.{RefT, now}
 use Rattle.refusal.specs.declared.Checked.{Checked}
 use Rattle.refusal.specs.Refusal.{checkedOutcome}
 use Rattle.refusal.specs.Due.{Exact}
-use Rattle.design.specs.Reasons.{designRows}
-use Rattle.design.proofs.Reasons.{design-exact}
+use Rattle.checking.specs.Reasons.{designRows}
+use Rattle.checking.proofs.Reasons.{design-exact}
 use Rattle.checking.proofs.TwoResults.{Allowed}
 
 -- whatever the contract allows refuses by 2, 3, 4 or 5 at a place exactly where that is due, and accepts exactly where none is

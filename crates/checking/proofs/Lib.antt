@@ -1,7 +1,10 @@
+pub mod Accepted
 pub mod Ascending
 pub mod Entries
 pub mod Exact
 pub mod Marks
+pub mod Reasons
 pub mod Scan
 pub mod TwoResults
 pub mod Verdicts
+pub mod Words

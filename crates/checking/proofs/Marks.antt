@@ -16,7 +16,7 @@ use Rattle.counting.specs.Counting.{oneMoreIf, anyBelow}
 use Rattle.counting.proofs.Bools.{bool-either, and-left-false, and-right-false}
 use Rattle.counting.proofs.Laws.{any-true, any-witness, any-none, none-any, count-zero, count-suc}
 use Rattle.design.specs.Design.{groupAt, names}
-use Rattle.design.specs.Rules.{rowsWith}
+use Rattle.checking.specs.Rules.{rowsWith}
 use Rattle.design.proofs.Rows.{holds}
 use Rattle.checking.specs.Table.{pairOf, pairFrom, markedIf, Marked, Counted, GoodRow, GoodRows}
 use Rattle.checking.proofs.Ascending.{Rising, rising-lt, rising-le, good-rising, good-below, row-within}

@@ -8,7 +8,7 @@ use Rattle.refusal.specs.declared.Checked.{Checked}
 use Rattle.refusal.specs.declared.Checked.the-variants.{Fine, Refused}
 use Rattle.refusal.specs.Refusal.{Outcome, refused, accepted, verdict, checkedOutcome}
 use Rattle.refusal.proofs.Same.{same-checked}
-use Rattle.design.specs.Rules.{designRules}
+use Rattle.checking.specs.Rules.{designRules}
 use Rattle.checking.proofs.check.Reads as check
 
 -- what the contract allows to be answered for v, k and a list, which is lent to be read only

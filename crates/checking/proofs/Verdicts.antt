@@ -14,7 +14,7 @@ use Rattle.counting.proofs.Laws.{lowest-before}
 use Rattle.refusal.specs.Refusal.{refused, accepted, verdict}
 use Rattle.geometry.specs.Geometry.{Limits, beyondLimits, whole, bOf}
 use Rattle.geometry.proofs.Laws.{limits-of, b-bound}
-use Rattle.design.specs.Rules.{rowBad, pairBad, designRules}
+use Rattle.checking.specs.Rules.{rowBad, pairBad, designRules}
 use Rattle.checking.specs.Table.{Rows, GoodRows}
 
 -- neither 2 nor 3 is due

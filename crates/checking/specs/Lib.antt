@@ -1,1 +1,4 @@
+pub mod Rules
+pub mod Reasons
 pub mod Table
+pub mod Theorems

@@ -8,7 +8,7 @@ use lib.ListN.{getD, length}
 use lib.Dec.{ltb, eqb}
 use Rattle.geometry.specs.Geometry.{Limits}
 use Rattle.design.specs.Design.{groupAt, names}
-use Rattle.design.specs.Rules.{rowBad, rowsWith}
+use Rattle.checking.specs.Rules.{rowBad, rowsWith}
 
 -- the list has b rows of k, for v groups: neither 2 nor 3 is due
 pub record Rows (v k b : ℕ) (d : List ℕ) : Type 0 where

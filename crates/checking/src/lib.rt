@@ -10,7 +10,7 @@ ghost use Prim.Native.Nat.{_*_};
 ghost use lib.Dec.{eqb};
 ghost use Rattle.refusal.specs.Refusal.{verdict, checkedOutcome};
 ghost use Rattle.geometry.specs.Geometry.{Limits, whole, bOf};
-ghost use Rattle.design.specs.Rules.{designRules};
+ghost use Rattle.checking.specs.Rules.{designRules};
 
 // Whether r and b are whole and a list of n numbers has b rows.
 fn list_fits(v: u32, k: u32, n: usize) -> bool

@@ -6,7 +6,7 @@ ghost use Prim.Native.Nat.{_+_, _*_, _≤_, _<_, min};
 ghost use lib.ListN.{length};
 ghost use Rattle.counting.specs.Counting.{lowest};
 ghost use Rattle.geometry.specs.Geometry.{bOf};
-ghost use Rattle.design.specs.Rules.{pairBad};
+ghost use Rattle.checking.specs.Rules.{pairBad};
 ghost use Rattle.checking.specs.Table.{GoodRows, GoodRow, pairOf, pairFrom, Marked, Counted, entryBad, numberBad};
 
 // An entry for each pair, at the most groups there may be.

@@ -3,7 +3,7 @@ ghost use mathlib.Core.Path.{_≡_};
 ghost use Prim.Native.Nat.{_+_, _*_, _≤_, _<_};
 ghost use lib.ListN.{length};
 ghost use Rattle.counting.specs.Counting.{lowest};
-ghost use Rattle.design.specs.Rules.{rowBad};
+ghost use Rattle.checking.specs.Rules.{rowBad};
 ghost use Rattle.checking.specs.Table.{Rows};
 
 // A group number as an index.

@@ -1,4 +1,2 @@
 pub mod Design
-pub mod Rules
-pub mod Reasons
 pub mod Theorems

@@ -5,7 +5,7 @@ use mathlib.Core.List.{List}
 use Rattle.counting.specs.Counting.{countBelow, lowest}
 use Rattle.geometry.specs.Geometry.{beyondLimits, rOf, bOf, whole, noDivisorBelow, sizesAllowed, disksOf, partsOf, unitsOf, tuplesOf, userUnitsOf, tupleSetsOf, setsOf, bytesOf}
 use Rattle.design.specs.Design.{groupAt, names}
-use Rattle.design.specs.Rules.{rowBad, rowsWith, pairBad, designRules}
+use Rattle.checking.specs.Rules.{rowBad, rowsWith, pairBad, designRules}
 use Rattle.sizes.specs.Sizes.{sizesRules, sizesOf}
 use Rattle.layout.specs.Cells.{labelColumn, diagonalAt, parityPosition, dataPosition}
 use Rattle.layout.specs.Roles.{userColumn, userRow, userRegion, userTuple, userCell, userOuter, innerOf}

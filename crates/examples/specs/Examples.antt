@@ -6,7 +6,7 @@ use mathlib.Core.Path.{_≡_}
 use mathlib.Core.List.{List, [], _∷_}
 use Rattle.refusal.specs.Refusal.{Outcome, refused, accepted, answer, verdict}
 use Rattle.geometry.specs.declared.Geometry.{Geometry}
-use Rattle.design.specs.Rules.{designRules}
+use Rattle.checking.specs.Rules.{designRules}
 use Rattle.sizes.specs.declared.Sizes.{Sizes}
 use Rattle.sizes.specs.Sizes.{sizesRules, sizesOf}
 use Rattle.layout.specs.declared.Place.{Place}

@@ -17,8 +17,8 @@ use Rattle.counting.proofs.Lists.{listOf-length, listOf-at}
 use Rattle.refusal.specs.Refusal.{verdict, accepted}
 use Rattle.geometry.specs.Geometry.{bOf}
 use Rattle.design.specs.Design.{groupAt, InRow, OneRow, Design}
-use Rattle.design.specs.Rules.{designRules}
-use Rattle.design.proofs.Accepted.{design-accepted}
+use Rattle.checking.specs.Rules.{designRules}
+use Rattle.checking.proofs.Accepted.{design-accepted}
 use Rattle.held.specs.Held.{setFor, heldGroup, heldDesign}
 use Rattle.held.specs.Developed.{developed}
 use Rattle.held.proofs.Rotation.{mod-low, mod-high, rotated, developed-at, member, place, listed, group-is}

@@ -12,7 +12,7 @@ use Rattle.refusal.specs.Refusal.{rule, answer}
 use Rattle.refusal.specs.Due.{row, Exact}
 use Rattle.refusal.proofs.Exactness.{Fit, Fits, zero-fit, silent-fit, exact}
 use Rattle.geometry.specs.Geometry.{bOf}
-use Rattle.design.proofs.Words.{whole-parts, b-is}
+use Rattle.checking.proofs.Words.{whole-parts, b-is}
 use Rattle.held.specs.Held.{table, setFor, fillRules}
 use Rattle.held.specs.Reasons.{HeldSet, NoSet, NotFilled, fillRows}
 use Rattle.held.proofs.Table.{held-found, set-held, held-set}

@@ -4,7 +4,7 @@
 ghost use mathlib.Core.Path.{_≡_};
 ghost use lib.ListN.{length};
 ghost use Rattle.refusal.specs.Refusal.{answer, verdict, kept, checkedOutcome};
-ghost use Rattle.design.specs.Rules.{designRules};
+ghost use Rattle.checking.specs.Rules.{designRules};
 ghost use Rattle.held.specs.Held.{fillRules, heldDesign};
 ghost use Rattle.sizes.specs.Sizes.{sizesRules, sizesOf, sizedOutcome};
 ghost use Rattle.address.specs.Address.{mapRules, roleRules, mappedOutcome, locatedOutcome};

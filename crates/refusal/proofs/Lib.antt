@@ -1,3 +1,4 @@
 pub mod Answer
 pub mod Exactness
+pub mod Firsts
 pub mod Same

@@ -15,11 +15,11 @@ use Rattle.geometry.specs.declared.Geometry.{Geometry}
 use Rattle.geometry.specs.Geometry.{sizesAllowed, tuplesOf}
 use Rattle.geometry.proofs.Laws.{no-divisors, no-divisor, allowed-parts, parts-allowed, sound-of}
 use Rattle.design.specs.Design.{Laid}
-use Rattle.design.specs.Rules.{designRules}
-use Rattle.design.specs.Reasons.{designRows}
-use Rattle.design.proofs.Firsts.{never-true}
-use Rattle.design.proofs.Accepted.{accepted-is-design}
-use Rattle.design.proofs.Reasons.{design-fits}
+use Rattle.checking.specs.Rules.{designRules}
+use Rattle.checking.specs.Reasons.{designRows}
+use Rattle.refusal.proofs.Firsts.{never-true}
+use Rattle.checking.proofs.Accepted.{accepted-is-design}
+use Rattle.checking.proofs.Reasons.{design-fits}
 use Rattle.sizes.specs.Sizes.{sizesRules}
 use Rattle.sizes.specs.Reasons.{Divides, Allowed, sizesRows}
 

@@ -8,7 +8,7 @@ use Rattle.refusal.specs.Refusal.{Rule, rule, refused, accepted, answer, verdic
 use Rattle.refusal.proofs.Answer.{first, next, skip, stop, refused-at, accepted-at}
 use Rattle.geometry.specs.declared.Geometry.{Geometry}
 use Rattle.geometry.specs.Geometry.{sizesAllowed}
-use Rattle.design.specs.Rules.{designRules}
+use Rattle.checking.specs.Rules.{designRules}
 use Rattle.sizes.specs.Sizes.{sizesRules}
 
 -- row 6

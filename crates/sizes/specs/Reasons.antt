@@ -4,7 +4,7 @@ use mathlib.Core.Path.{_≡_}
 use mathlib.Core.List.{List, [], _∷_, _++_}
 use Rattle.refusal.specs.Due.{Row, row}
 use Rattle.geometry.specs.declared.Geometry.{Geometry}
-use Rattle.design.specs.Reasons.{designRows}
+use Rattle.checking.specs.Reasons.{designRows}
 
 -- e divides g
 abbrev pub Divides : (e g : ℕ) → Type 0

@@ -5,7 +5,7 @@ use mathlib.Core.List.{List, [], _∷_, _++_}
 use Rattle.refusal.specs.Refusal.{Rule, rule, Outcome, refused, accepted, answer}
 use Rattle.geometry.specs.declared.Geometry.{Geometry}
 use Rattle.geometry.specs.Geometry.{sizesAllowed, partsOf, tuplesOf, disksOf, unitsOf, userUnitsOf, setsOf, bytesOf}
-use Rattle.design.specs.Rules.{designRules}
+use Rattle.checking.specs.Rules.{designRules}
 use Rattle.sizes.specs.declared.Sizes.{Sizes}
 use Rattle.sizes.specs.declared.Sized.{Sized}
 use Rattle.sizes.specs.declared.Sized.the-variants.{Refused}

@@ -3,7 +3,7 @@ use Prim.Native.Nat.{_-_}
 use mathlib.Core.Path.{sym, _∙_}
 use native.Mathlib.Omega.{arith}
 use borrow.Author.Needs.{needs}
-use Rattle.design.specs.Rules.{rowBad}
+use Rattle.checking.specs.Rules.{rowBad}
 use Rattle.checking.proofs.Ascending.{row-within}
 use Rattle.checking.proofs.Scan.{Scanned, scanned-none, scanned-next, scanned-found, scanned-all}
 use Rattle.checking.proofs.rows.first_bad_row.Statement.{statement}

@@ -14,11 +14,11 @@ use Rattle.counting.proofs.Bools.{bool-either, and-both, both-and, or-one, left
 use Rattle.counting.proofs.Laws.{any-true, any-witness, count-one, count-one-is}
 use Rattle.geometry.specs.Geometry.{Limits, beyondLimits, rOf, bOf, whole}
 use Rattle.geometry.proofs.Laws.{limits-of, tuple-pos}
 use Rattle.design.specs.Design.{groupAt, names, InRow, OneRow}
-use Rattle.design.specs.Rules.{rowBad, rowsWith, pairBad}
-use Rattle.design.specs.Reasons.{BeyondLimits, NotWhole, BadRow, BadPair}
-use Rattle.design.proofs.Firsts.{never-true}
+use Rattle.checking.specs.Rules.{rowBad, rowsWith, pairBad}
+use Rattle.checking.specs.Reasons.{BeyondLimits, NotWhole, BadRow, BadPair}
+use Rattle.refusal.proofs.Firsts.{never-true}
 use Rattle.design.proofs.Rows.{names-in, in-names}
 
 -- ---- row 2
 

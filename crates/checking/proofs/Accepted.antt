@@ -16,12 +16,13 @@ use Rattle.refusal.specs.Refusal.{verdict, accepted}
 use Rattle.refusal.proofs.Answer.{accepted-quiet, quiet-accepted}
 use Rattle.geometry.specs.Geometry.{Limits, whole, bOf}
 use Rattle.geometry.proofs.Laws.{limits-of, of-limits}
 use Rattle.design.specs.Design.{groupAt, OneRow, Design}
-use Rattle.design.specs.Rules.{rowBad, rowsWith, pairBad, designRules}
-use Rattle.design.specs.Reasons.{BadRow, BadPair}
-use Rattle.design.proofs.Firsts.{never-true}
-use Rattle.design.proofs.Words.{row-words, words-row, one-row, row-one, pair-words, words-pair}
-pub use Rattle.design.proofs.Words.{whole-parts}
+use Rattle.checking.specs.Theorems.{What-is-accepted-is-a-design, A-design-is-accepted}
+use Rattle.checking.specs.Rules.{rowBad, rowsWith, pairBad, designRules}
+use Rattle.checking.specs.Reasons.{BadRow, BadPair}
+use Rattle.refusal.proofs.Firsts.{never-true}
+use Rattle.checking.proofs.Words.{row-words, words-row, one-row, row-one, pair-words, words-pair}
+pub use Rattle.checking.proofs.Words.{whole-parts}
 
 -- the bound of a row's groups, and that they ascend, where the row is not bad
 fine-low : (v k : ℕ) (d : List ℕ) (t l : ℕ) → rowBad v k d t ≡ false → l < k → groupAt k d t l < v
@@ -52,10 +53,7 @@ fine-pair v k d a c h ha hc = go (bool-either (eqb (rowsWith k (bOf v k) d a c) 
         (subst₂ (λ (x y : ℕ). BadPair v k d x y) (sym (digits-div a hc)) (sym (digits-mod a hc)) bad))
         h
 
--- "What the check accepts is a design"
-pub accepted-is-design :
-    (v k : ℕ) (d : List ℕ) → verdict (designRules v k d) ≡ accepted tt
-    → Limits v k × (whole v k ≡ true) × Design v k (bOf v k) d
+pub accepted-is-design : What-is-accepted-is-a-design
 unfolding designRules
 accepted-is-design v k d e =
     let q = accepted-quiet (designRules v k d) tt tt e in
@@ -79,9 +77,7 @@ design-row v k d t D h (inl w) = let s = D .groups t (w .0) h (w .1) in omega ar
 design-row v k d t D h (inr w) = let s = D .ascending t (w .0) h (w .1) in omega arith
 
 -- every design is accepted
-pub design-accepted :
-    (v k : ℕ) (d : List ℕ) → Limits v k → whole v k ≡ true → Design v k (bOf v k) d
-    → verdict (designRules v k d) ≡ accepted tt
+pub design-accepted : A-design-is-accepted
 unfolding designRules
 design-accepted v k d L w D =
     quiet-accepted (designRules v k d) tt (

@@ -16,10 +16,11 @@ use Rattle.refusal.specs.Due.{row, Exact}
 use Rattle.refusal.proofs.Exactness.{Fit, Fits, zero-fit, fit-words, silent-fit, exact}
 use Rattle.geometry.specs.Geometry.{beyondLimits, whole, bOf}
 use Rattle.geometry.proofs.Laws.{limits-of}
-use Rattle.design.specs.Rules.{rowBad, pairBad, designRules}
-use Rattle.design.specs.Reasons.{BeyondLimits, NotWhole, BadRow, BadPair, FirstBadPair, designRows}
-use Rattle.design.proofs.Firsts.{First, first-fit}
-use Rattle.design.proofs.Words.{beyond-words, words-beyond, whole-words, words-whole, row-words, words-row, pair-words, words-pair}
+use Rattle.checking.specs.Theorems.{Refusals-are-exact}
+use Rattle.checking.specs.Rules.{rowBad, pairBad, designRules}
+use Rattle.checking.specs.Reasons.{BeyondLimits, NotWhole, BadRow, BadPair, FirstBadPair, designRows}
+use Rattle.refusal.proofs.Firsts.{First, first-fit}
+use Rattle.checking.proofs.Words.{beyond-words, words-beyond, whole-words, words-whole, row-words, words-row, pair-words, words-pair}
 
 -- (x,y) stands before (a,c): "lowest a then b"
 abbrev Before : (x y a c : ℕ) → Type 0
@@ -91,6 +92,5 @@ module _ (v k : ℕ) (d : List ℕ) where
         ),
   )
 
-  -- "refusals come exactly as tabled": 2 to 5
-  pub design-exact : Exact (designRows v k d) (verdict (designRules v k d))
-  design-exact = exact (designRules v k d) (designRows v k d) tt design-fits
+pub design-exact : Refusals-are-exact
+design-exact v k d = exact (designRules v k d) (designRows v k d) tt (design-fits v k d)
