@@ -1,16 +1,16 @@
 -- Rows that ascend, and what 4 asks of a row. Assumes nothing.
-use Prim.Native.Nat.{ℕ, zero, suc, _+_, _-_, _*_, _≤_, _<_}
+use Prim.Native.Nat.{ℕ, suc, _+_, _-_, _*_, _≤_, _<_}
 use mathlib.Core.Path.{_≡_, sym, ap, _∙_}
 use mathlib.Core.Bool.{true, false}
 use mathlib.Core.Logic.{inl, inr}
 use mathlib.Core.List.{List}
 use native.Mathlib.Decide.{decLt}
 use native.Mathlib.Nat.{mul-le-mul-right, suc-mul}
-use native.Mathlib.Numerals.{add-one}
 use native.Mathlib.Omega.{arith}
 use lib.Dec.{leb}
 use lib.ListN.{length, getD}
 use borrow.Author.Tests.{le-leb, lt-leb}
+use Rattle.counting.proofs.Ascending.{ascends-le}
 use Rattle.counting.proofs.Bools.{bool-not-both}
 use Rattle.design.specs.Design.{groupAt}
 use Rattle.checking.specs.Rules.{rowBad}
@@ -22,23 +22,6 @@ use Rattle.checking.specs.Table.{Rows}
 -- the first n numbers ascend
 pub record Rising (f : ℕ → ℕ) (n : ℕ) : Type 0 where
   pub step : (l : ℕ) → l + 1 < n → f l < f (l + 1)
-
--- from any place to any later one
-pub rising-lt : (f : ℕ → ℕ) (n i j : ℕ) → Rising f n → i < j → j < n → f i < f j
-rising-lt f n i zero r h b = omega arith
-rising-lt f n i (suc j) r h b =
-    go (decLt i j) (rw add-one at (r .step j (omega arith))) (λ (p : i < j). rising-lt f n i j r p (omega arith))
-  where
-    go : Dec (i < j) → f j < f (suc j) → (i < j → f i < f j) → f i < f (suc j)
-    go (yes p) last before = let q : f i < f j = before p in omega arith
-    go (no p) last before = let e : i ≡ j = omega arith in rw e last
-
-pub rising-le : (f : ℕ → ℕ) (n i j : ℕ) → Rising f n → i ≤ j → j < n → f i ≤ f j
-rising-le f n i j r h b = go (decLt i j)
-  where
-    go : Dec (i < j) → f i ≤ f j
-    go (yes p) = let q : f i < f j = rising-lt f n i j r p b in omega arith
-    go (no p) = let e : i ≡ j = omega arith in rw e (omega arith)
 
 rising-more : (f : ℕ → ℕ) (l : ℕ) → 1 ≤ l → Rising f l → f (l - 1) < f l → Rising f (l + 1)
 rising-more f l one r h = record { step = λ (j : ℕ) (b : j + 1 < l + 1). go j b (decLt (j + 1) l) }
@@ -57,7 +40,7 @@ module _ (v k : ℕ) (d : List ℕ) (t : ℕ) where
     where
       bad : groupAt k d t l < v → BadRow v k d t → ⊥
       bad p (inl w) =
-          let q : groupAt k d t (w .0) ≤ groupAt k d t l = rising-le (groupAt k d t) k (w .0) l r (omega arith) (omega arith) in
+          let q : groupAt k d t (w .0) ≤ groupAt k d t l = ascends-le (groupAt k d t) k (r .step) (w .0) l (omega arith) (omega arith) in
           omega arith
       bad p (inr w) = let q = r .step (w .0) (w .1) in omega arith
 

@@ -13,13 +13,14 @@ use lib.Seq.{getD-set-same, getD-set-other}
 use borrow.Author.Count.{below-more}
 use borrow.Author.Tests.{ne-eqb, eqb-true, eqb-false}
 use Rattle.counting.specs.Counting.{oneMoreIf, anyBelow}
+use Rattle.counting.proofs.Ascending.{ascends-far, ascends-le}
 use Rattle.counting.proofs.Bools.{bool-either, and-left-false, and-right-false}
 use Rattle.counting.proofs.Laws.{any-true, any-witness, any-none, none-any, count-zero, count-suc}
 use Rattle.design.specs.Design.{groupAt, names}
 use Rattle.checking.specs.Rules.{rowsWith}
 use Rattle.design.proofs.Rows.{holds}
 use Rattle.checking.specs.Table.{pairOf, pairFrom, markedIf, Marked, Counted, GoodRow, GoodRows}
-use Rattle.checking.proofs.Ascending.{Rising, rising-lt, rising-le, good-rising, good-below, row-within}
+use Rattle.checking.proofs.Ascending.{Rising, good-rising, good-below, row-within}
 
 -- ---- one pair
 
@@ -103,7 +104,7 @@ among-joined k d t m z r h = go (bool-either (eqb (groupAt k d t m) z)) (bool-ei
     earlier : eqb (groupAt k d t m) z ≡ true → (j : ℕ) → j < m → eqb (groupAt k d t j) z ≡ false
     earlier p j q =
         let e : groupAt k d t m ≡ z = eqb-true (groupAt k d t m) z p in
-        let l : groupAt k d t j < groupAt k d t m = rising-lt (groupAt k d t) k j m r q h in
+        let l : groupAt k d t j < groupAt k d t m = ascends-far (groupAt k d t) k (r .step) j m q h in
         ne-eqb (groupAt k d t j) z (λ (i : groupAt k d t j ≡ z). omega arith)
 
     go :
@@ -152,7 +153,7 @@ none-behind k d t l r h a c p = go (bool-either (eqb (groupAt k d t l) a))
         none : (j : ℕ) → j < l + 1 → eqb (groupAt k d t j) c ≡ false
         none j q =
             let x : groupAt k d t l ≡ a = eqb-true (groupAt k d t l) a s in
-            let y : groupAt k d t j ≤ groupAt k d t l = rising-le (groupAt k d t) k j l r (omega arith) h in
+            let y : groupAt k d t j ≤ groupAt k d t l = ascends-le (groupAt k d t) k (r .step) j l (omega arith) h in
             ne-eqb (groupAt k d t j) c (λ (i : groupAt k d t j ≡ c). omega arith)
 
 pub marked-to-none :

@@ -6,7 +6,7 @@ use contract.Lifetimes.{Lfts}
 use denote.Ref.{RefT, now}
 use Rattle.refusal.specs.declared.Checked.{Checked}
 use Rattle.refusal.specs.declared.Checked.the-variants.{Fine, Refused}
-use Rattle.refusal.specs.Refusal.{Outcome, refused, accepted, verdict, checkedOutcome}
+use Rattle.refusal.specs.Refusal.{Outcome, refused, accepted, verdict}
 use Rattle.refusal.proofs.Same.{same-checked}
 use Rattle.checking.specs.Rules.{designRules}
 use Rattle.checking.proofs.check.Reads as check

@@ -1,11 +1,10 @@
 -- The verdict of rules 2 to 5, a law for each answer. Assumes nothing.
-use Prim.Native.Nat.{ℕ, _+_, _-_, _*_, _≤_, _<_}
-use mathlib.Core.Path.{_≡_, refl, sym, ap, _∙_}
-use mathlib.Core.Bool.{Bool, true, false, not, _&&_}
+use Prim.Native.Nat.{ℕ, _*_, _≤_, _<_}
+use mathlib.Core.Path.{_≡_}
+use mathlib.Core.Bool.{true, false, _&&_}
 use mathlib.Core.List.{List}
-use native.Mathlib.Nat.{mul-le-mul}
 use native.Mathlib.Omega.{arith}
-use lib.Dec.{eqb, ltb}
+use lib.Dec.{eqb}
 use lib.ListN.{length}
 use borrow.Author.Tests.{lt-ltb, le-ltb, eqb-true}
 use Rattle.counting.specs.Counting.{lowest}
@@ -13,7 +12,7 @@ use Rattle.counting.proofs.Bools.{and-both}
 use Rattle.counting.proofs.Laws.{lowest-before}
 use Rattle.refusal.specs.Refusal.{refused, accepted, verdict}
 use Rattle.geometry.specs.Geometry.{Limits, beyondLimits, whole, bOf}
-use Rattle.geometry.proofs.Laws.{limits-of, b-bound}
+use Rattle.geometry.proofs.Laws.{limits-of}
 use Rattle.checking.specs.Rules.{rowBad, pairBad, designRules}
 use Rattle.checking.specs.Table.{Rows, GoodRows}
 

@@ -1,3 +1,4 @@
+pub mod Ascending
 pub mod Bools
 pub mod Laws
 pub mod Lists

@@ -6,11 +6,11 @@ use mathlib.Core.List.{List}
 use lib.Dec.{eqb}
 use lib.Arith.{digits-div}
 use native.Mathlib.Nat.{mul-one, mul-sub}
-use native.Mathlib.Numerals.{add-one}
 use native.Mathlib.Omega.{arith}
 use native.Mathlib.Decide.{decLt}
 use borrow.Author.Tests.{eq-eqb, eqb-true, ne-eqb, ltb-true}
 use Rattle.counting.specs.Counting.{lowest, countBelow}
+use Rattle.counting.proofs.Ascending.{ascends-far}
 use Rattle.counting.proofs.Bools.{and-both, both-and}
 use Rattle.counting.proofs.Laws.{any-true, any-witness, any-none, lowest-is, lowest-holds, count-same, count-one}
 use Rattle.counting.proofs.Sums.{
@@ -73,16 +73,7 @@ module _ (k : ℕ) (d : List ℕ) (a t : ℕ) where
 module _ (v k b : ℕ) (d : List ℕ) (D : Design v k b d) (t : ℕ) (ht : t < b) where
   -- "Rows ascend strictly", from any position to any later one
   pub row-ascends : (l m : ℕ) → l < m → m < k → groupAt k d t l < groupAt k d t m
-  row-ascends l zero h q = omega arith
-  row-ascends l (suc m) h q =
-      let next : groupAt k d t m < groupAt k d t (suc m) = rw add-one at (D .ascending t m ht (omega arith)) in
-      step (decLt l m) next (λ e. row-ascends l m e (omega arith))
-    where
-      step :
-          Dec (l < m) → groupAt k d t m < groupAt k d t (suc m) → (l < m → groupAt k d t l < groupAt k d t m) →
-          groupAt k d t l < groupAt k d t (suc m)
-      step (yes e) next before = let y = before e in omega arith
-      step (no e) next before = let y : l ≡ m = omega arith in rw y next
+  row-ascends = ascends-far (groupAt k d t) k (λ (l : ℕ). D .ascending t l ht)
 
   -- a row holds each group at most once
   pub row-once : (l m : ℕ) → l < k → m < k → groupAt k d t l ≡ groupAt k d t m → l ≡ m

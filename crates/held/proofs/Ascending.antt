@@ -7,24 +7,9 @@ use native.Mathlib.Numerals.{add-one}
 use native.Mathlib.Omega.{arith}
 use native.Mathlib.Decide.{decLt}
 use Rattle.counting.specs.Counting.{countBelow, nthBelow}
+use Rattle.counting.proofs.Ascending.{ascends-le}
 use Rattle.counting.proofs.Bools.{bool-either}
 use Rattle.counting.proofs.Laws.{count-none, count-more, count-add, nth-count}
-
--- from any place to any later one
-pub ascends-far : (r : ℕ → ℕ) (k : ℕ) → ((l : ℕ) → l + 1 < k → r l < r (l + 1)) → (l m : ℕ) → l < m → m < k → r l < r m
-ascends-far r k asc l zero h q = omega arith
-ascends-far r k asc l (suc m) h q = step (decLt l m) (rw add-one at (asc m (omega arith))) (λ e. ascends-far r k asc l m e (omega arith))
-  where
-    step : Dec (l < m) → r m < r (suc m) → (l < m → r l < r m) → r l < r (suc m)
-    step (yes e) next before = let y = before e in omega arith
-    step (no e) next before = let y : l ≡ m = omega arith in rw y next
-
-pub ascends-le : (r : ℕ → ℕ) (k : ℕ) → ((l : ℕ) → l + 1 < k → r l < r (l + 1)) → (l m : ℕ) → l ≤ m → m < k → r l ≤ r m
-ascends-le r k asc l m h q = step (decLt l m)
-  where
-    step : Dec (l < m) → r l ≤ r m
-    step (yes e) = let y = ascends-far r k asc l m e q in omega arith
-    step (no e) = let y : l ≡ m = omega arith in rw y (omega arith)
 
 -- r 0 < r 1 < .. < r (k - 1) are the numbers below n that pass
 pub record Listed (f : ℕ → Bool) (n k : ℕ) (r : ℕ → ℕ) : Type 0 where

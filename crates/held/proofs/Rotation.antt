@@ -12,10 +12,11 @@ use lib.ListN.{length, getD}
 use lib.Dec.{ltb, leb, eqb}
 use borrow.Author.Tests.{lt-ltb, le-ltb, le-leb, lt-leb, leb-true, leb-false, eq-eqb, eqb-true}
 use Rattle.counting.specs.Counting.{lowest}
+use Rattle.counting.proofs.Ascending.{ascends-far, ascends-le}
 use Rattle.counting.proofs.Laws.{lowest-is, lowest-none, lowest-le, lowest-holds, lowest-before, any-true, any-witness}
 use Rattle.held.specs.Held.{shifted, heldGroup}
 use Rattle.held.specs.Developed.{Developable, firstPast, developed}
-use Rattle.held.proofs.Ascending.{Listed, ascends-far, ascends-le, listed-nth}
+use Rattle.held.proofs.Ascending.{Listed, listed-nth}
 
 -- a number below 2v, modulo v
 pub mod-low : (n v : ℕ) → n < v → n % v ≡ n

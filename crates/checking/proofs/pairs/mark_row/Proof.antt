@@ -1,6 +1,5 @@
 -- `mark_row`: the pairs of the first l groups with those behind them are counted. Assumes nothing.
 use Prim.Native.Nat.{_-_}
-use native.Mathlib.Omega.{arith}
 use borrow.Author.Needs.{needs}
 use Rattle.checking.proofs.Marks.{RowTo, row-to-none, row-to-row, row-to-next, row-to-all}
 use Rattle.checking.proofs.pairs.mark_row.Statement.{statement}

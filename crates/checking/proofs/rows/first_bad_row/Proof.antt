@@ -1,7 +1,6 @@
 -- `first_bad_row`: no row before t is bad. Assumes nothing.
 use Prim.Native.Nat.{_-_}
 use mathlib.Core.Path.{sym, _∙_}
-use native.Mathlib.Omega.{arith}
 use borrow.Author.Needs.{needs}
 use Rattle.checking.specs.Rules.{rowBad}
 use Rattle.checking.proofs.Ascending.{row-within}

@@ -1,6 +1,6 @@
 -- `row_bad`: up to l the row ascends, and `last` is its last group. Assumes nothing.
-use Prim.Native.Nat.{_*_, _-_}
-use mathlib.Core.Path.{_≡_, sym}
+use Prim.Native.Nat.{_-_}
+use mathlib.Core.Path.{sym}
 use native.Mathlib.Omega.{arith}
 use borrow.Author.Needs.{needs}
 use Rattle.checking.proofs.Ascending.{Passed, passed-first, passed-next, passed-falls, passed-all}
