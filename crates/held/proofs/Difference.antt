@@ -19,6 +19,7 @@ use Rattle.geometry.specs.Geometry.{bOf}
 use Rattle.design.specs.Design.{groupAt, InRow, OneRow, Design}
 use Rattle.checking.specs.Rules.{designRules}
 use Rattle.checking.proofs.Accepted.{design-accepted}
+use Rattle.held.specs.Theorems.{Held-designs-are-accepted}
 use Rattle.held.specs.Held.{setFor, heldGroup, heldDesign}
 use Rattle.held.specs.Developed.{developed}
 use Rattle.held.proofs.Rotation.{mod-low, mod-high, rotated, developed-at, member, place, listed, group-is}
@@ -188,9 +189,7 @@ pub held-design : (v : ℕ) → (length (setFor v) ≡ 0 → ⊥) → Design v (
 unfolding heldDesign
 held-design v n = let S = held-difference v n in rw (S .rows) (developed-design v (setFor v) S)
 
--- "The held lists: each of the seven is accepted"
-pub held-accepted :
-    (v : ℕ) → (length (setFor v) ≡ 0 → ⊥) → verdict (designRules v (length (setFor v)) (heldDesign v)) ≡ accepted tt
+pub held-accepted : Held-designs-are-accepted
 held-accepted v n =
     let S = held-difference v n in
     design-accepted v (length (setFor v)) (heldDesign v) (S .developable .limits) (S .whole-sizes) (held-design v n)

@@ -7,3 +7,4 @@ pub mod Table
 pub mod Answers
 pub mod Difference
 pub mod TwoResults
+pub mod Exact

@@ -1,3 +1,4 @@
 pub mod Held
 pub mod Reasons
 pub mod Developed
+pub mod Theorems

@@ -9,43 +9,68 @@ ghost use Rattle.held.specs.Developed.{Developable, firstPast, developed
 use refusal::Checked;
 use refusal::Refusal;
 
-// 000's table 1, with 57 for its fifth v (01): v, the length of its set, and the set, padded to ten members.
-const VS: [u32; 7] = [7, 13, 21, 31, 57, 73, 91];
-
-const LENGTHS: [usize; 7] = [3, 4, 5, 6, 8, 9, 10];
-
-const SETS: [[u16; 10]; 7] = [
-    [0, 1, 3, 0, 0, 0, 0, 0, 0, 0],
-    [0, 1, 3, 9, 0, 0, 0, 0, 0, 0],
-    [0, 1, 4, 14, 16, 0, 0, 0, 0, 0],
-    [0, 1, 3, 8, 12, 18, 0, 0, 0, 0],
-    [0, 1, 3, 13, 32, 36, 43, 52, 0, 0],
-    [0, 1, 3, 7, 15, 31, 36, 54, 63, 0],
-    [0, 1, 3, 9, 27, 49, 56, 61, 77, 81],
-];
-
-// A row of the table: the set is the first `length` members.
+// A row of the table: a v and its set, the first `length` of ten members.
 struct Padded {
-    members: [u16; 10],
+    v: u32,
     length: usize,
+    members: [u16; 10],
 }
 
-// The set held for v, and one of no members where none is.
+// 000's table 1, with 57 for its fifth v (01), each set padded to ten members.
+const TABLE: [Padded; 7] = [
+    Padded {
+        v: 7,
+        length: 3,
+        members: [0, 1, 3, 0, 0, 0, 0, 0, 0, 0],
+    },
+    Padded {
+        v: 13,
+        length: 4,
+        members: [0, 1, 3, 9, 0, 0, 0, 0, 0, 0],
+    },
+    Padded {
+        v: 21,
+        length: 5,
+        members: [0, 1, 4, 14, 16, 0, 0, 0, 0, 0],
+    },
+    Padded {
+        v: 31,
+        length: 6,
+        members: [0, 1, 3, 8, 12, 18, 0, 0, 0, 0],
+    },
+    Padded {
+        v: 57,
+        length: 8,
+        members: [0, 1, 3, 13, 32, 36, 43, 52, 0, 0],
+    },
+    Padded {
+        v: 73,
+        length: 9,
+        members: [0, 1, 3, 7, 15, 31, 36, 54, 63, 0],
+    },
+    Padded {
+        v: 91,
+        length: 10,
+        members: [0, 1, 3, 9, 27, 49, 56, 61, 77, 81],
+    },
+];
+
+// The row of v, and one of no members where no set is held.
 fn padded_for(v: u32) -> Padded
     ensures { λ r. ⌜ (r .length ≡ length (setFor v)) × (take (r .length) (r .members) ≡ setFor v) ⌝ }
 {
     let mut i: usize = 0;
     while i < 7 {
-        if VS[i] == v {
-            let members = SETS[i];
-            let length = LENGTHS[i];
-            return Padded { members, length };
+        let row = TABLE[i];
+        if row.v == v {
+            return row;
         }
         i += 1;
     }
     Padded {
-        members: [0; 10],
+        v,
         length: 0,
+        members: [0; 10],
     }
 }
 

@@ -20,28 +20,16 @@ loop-holds : tie.Need-loop-holds Inv-loop μ-loop
 unfolding setFor
 loop-holds c = (omega arith, refl)
 
-mul-if1 : tie.Need-mul-if1 Inv-loop μ-loop
-mul-if1 c = search needs
+mul-row : tie.Need-mul-row Inv-loop μ-loop
+mul-row c = search needs
 
-array-read-if1 : tie.Need-array-read-if1 Inv-loop μ-loop
-array-read-if1 c = search needs
-
-mul-members : tie.Need-mul-members Inv-loop μ-loop
-mul-members c = search needs
-
-array-copy-out-members : tie.Need-array-copy-out-members Inv-loop μ-loop
-array-copy-out-members c = search needs
-
-mul-length : tie.Need-mul-length Inv-loop μ-loop
-mul-length c = search needs
-
-array-read-length : tie.Need-array-read-length Inv-loop μ-loop
-array-read-length c = search needs
+array-copy-out-row : tie.Need-array-copy-out-row Inv-loop μ-loop
+array-copy-out-row c = search needs
 
 returns : tie.Need-returns Inv-loop μ-loop
 returns c =
-    stops table _ (c .before .before .before .loop .i) _ (c .before .before .before .loop .inv .1)
-    (c .before .before .loop-test .taken) (c .before .if1 .taken)
+    stops table _ (c .before .before .before .before .loop .i) _ (c .before .before .before .before .loop .inv .1)
+    (c .before .before .before .loop-test .taken) (c .if1 .taken)
 
 add-i : tie.Need-add-i Inv-loop μ-loop
 add-i c = search needs
@@ -52,8 +40,8 @@ loop-less c = search needs
 loop-again : tie.Need-loop-again Inv-loop μ-loop
 loop-again c = (
   omega arith,
-  passes table _ (c .before .before .loop .i) (c .before .loop-test .taken) (c .if1 .left)
-      ∙ c .before .before .loop .inv .1,
+  passes table _ (c .before .before .before .before .loop .i) (c .before .before .before .loop-test .taken) (c .if1 .left)
+      ∙ c .before .before .before .before .loop .inv .1,
 )
 
 returns-2 : tie.Need-returns-2 Inv-loop μ-loop
@@ -66,12 +54,8 @@ padded-for-spec =
     Inv-loop
     μ-loop
     loop-holds
-    mul-if1
-    array-read-if1
-    mul-members
-    array-copy-out-members
-    mul-length
-    array-read-length
+    mul-row
+    array-copy-out-row
     returns
     add-i
     loop-less
