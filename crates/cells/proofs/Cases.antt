@@ -1,15 +1,26 @@
 -- The cases of the positions, one law for each, and the user numbering digit by digit. Assumes nothing.
 use Prim.Native.Nat.{ℕ, _+_, _-_, _*_, _≤_, _<_}
 use mathlib.Core.Path.{_≡_}
+use native.Mathlib.Omega.{arith}
+use native.Mathlib.Nat.{mul-le-mul}
 use native.Mathlib.Numerals.{add-one, sub-one}
+use mir.Syntax.{w32}
+use mir.Val.{Fits}
 use borrow.Author.Tests.{lt-ltb, le-ltb}
 use Rattle.geometry.specs.declared.Geometry.{Geometry}
 use Rattle.geometry.specs.declared.UserUnit.{UserUnit}
 use Rattle.layout.specs.declared.Cell.{Cell}
-use Rattle.layout.specs.declared.Role.{Role}
 use Rattle.layout.specs.declared.Role.the-variants.{User}
 use Rattle.layout.specs.Cells.{parityPosition, dataPosition, dataNumber}
 use Rattle.layout.specs.Roles.{userNumber, user}
+
+-- a row times a shift, and a column moved by it, fit
+module _ (i m : ℕ) (row : i ≤ 13) (shift : m ≤ 13) where
+  pub product-fits : Fits w32 (i * m)
+  product-fits = omega (arith, mul-le-mul row shift)
+
+  pub moved-fits : (x : ℕ) → x ≤ 13 → Fits w32 (x + i * m)
+  moved-fits x h = omega (arith, mul-le-mul row shift)
 
 pub position-below : (k t m : ℕ) → m < parityPosition k t → m ≡ dataPosition k t m
 unfolding dataPosition

@@ -32,15 +32,15 @@ pub fn find_entry(design: &[u16], a: Group, p: Part) -> usize
     let name = a.0 as u16;
     let wanted = p.0 as u16;
     let mut n: u16 = 0;
-    let mut i: usize = 0;
-    while i < design.len() {
-        if design[i] == name {
+    let mut at: usize = 0;
+    while at < design.len() {
+        if design[at] == name {
             if n == wanted {
-                return i;
+                return at;
             }
             n += 1;
         }
-        i += 1;
+        at += 1;
     }
-    i
+    at
 }

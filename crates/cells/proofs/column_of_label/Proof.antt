@@ -1,17 +1,18 @@
 -- `cells::column_of_label` meets its contract. Assumes nothing.
 use native.Mathlib.Omega.{arith}
-use native.Mathlib.Nat.{mul-le-mul, mod-lt}
+use native.Mathlib.Nat.{mod-lt}
 use mathlib.Core.Path.{refl}
 use Rattle.layout.specs.Cells.{labelColumn}
+use Rattle.cells.proofs.Cases.{product-fits, moved-fits}
 use borrow.Author.Needs.{needs}
 use Rattle.cells.proofs.column_of_label.Statement.{statement}
 use Rattle.cells.proofs.column_of_label.Tie as tie
 
 mul-result : tie.Need-mul-result
-mul-result c = omega (arith, mul-le-mul (c .pre .i-high) (c .pre .l-high))
+mul-result c = product-fits _ _ (c .pre .i-high) (omega arith)
 
 add-result : tie.Need-add-result
-add-result c = omega (arith, mul-le-mul (c .pre .i-high) (c .pre .l-high))
+add-result c = moved-fits _ _ (c .pre .i-high) (omega arith) _ (c .pre .x-high)
 
 rem-result : tie.Need-rem-result
 rem-result c = search needs

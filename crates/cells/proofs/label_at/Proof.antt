@@ -1,9 +1,9 @@
 -- `cells::label_at` meets its contract. Assumes nothing.
 use native.Mathlib.Omega.{arith}
-use Prim.Native.Nat.{_-_, _≤_}
-use native.Mathlib.Nat.{mul-le-mul, mod-lt}
+use native.Mathlib.Nat.{mod-lt}
 use mathlib.Core.Path.{refl}
 use Rattle.layout.specs.Cells.{labelAt}
+use Rattle.cells.proofs.Cases.{product-fits, moved-fits}
 use borrow.Author.Needs.{needs}
 use Rattle.cells.proofs.label_at.Statement.{statement}
 use Rattle.cells.proofs.label_at.Tie as tie
@@ -12,12 +12,10 @@ sub-result : tie.Need-sub-result
 sub-result c = search needs
 
 mul-result : tie.Need-mul-result
-mul-result c = let h : c .args .g - c .args .l ≤ 13 = omega arith in
-    omega (arith, mul-le-mul (c .pre .0 .i-high) h)
+mul-result c = product-fits _ _ (c .pre .0 .i-high) (omega arith)
 
 add-result : tie.Need-add-result
-add-result c = let h : c .args .g - c .args .l ≤ 13 = omega arith in
-    omega (arith, mul-le-mul (c .pre .0 .i-high) h)
+add-result c = moved-fits _ _ (c .pre .0 .i-high) (omega arith) _ (c .pre .0 .x-high)
 
 rem-result : tie.Need-rem-result
 rem-result c = search needs

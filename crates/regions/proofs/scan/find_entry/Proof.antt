@@ -9,10 +9,10 @@ use Rattle.regions.proofs.scan.find_entry.Statement.{statement}
 use Rattle.regions.proofs.scan.find_entry.Tie as tie
 
 abbrev Inv-loop : tie.InvT-loop
-Inv-loop design name wanted n₀ i₀ n i = Passed design name wanted n i
+Inv-loop design name wanted n₀ at₀ n at = Passed design name wanted n at
 
 abbrev μ-loop : tie.MeasureT-loop
-μ-loop design name wanted n₀ i₀ n i = length design - i
+μ-loop design name wanted n₀ at₀ n at = length design - at
 
 -- src/scan.rt:33:16
 cast-name : tie.Need-cast-name Inv-loop μ-loop
@@ -43,8 +43,8 @@ add-n : tie.Need-add-n Inv-loop μ-loop
 add-n c = search needs
 
 -- src/scan.rt:44:9
-add-i : tie.Need-add-i Inv-loop μ-loop
-add-i c = search needs
+add-at : tie.Need-add-at Inv-loop μ-loop
+add-at c = search needs
 
 -- src/scan.rt:37:5
 loop-less : tie.Need-loop-less Inv-loop μ-loop
@@ -52,10 +52,10 @@ loop-less c = search needs
 
 -- src/scan.rt:37:5
 loop-again : tie.Need-loop-again Inv-loop μ-loop
-loop-again c = let at = c .before .before .before .loop in
+loop-again c = let turned = c .before .before .before .loop in
     let turn = c .before .before .loop-test .taken in
-    ⊎-elim (λ w. rw (w .2) (passed-hit _ _ _ _ _ (at .inv) turn (w .0 .taken) (w .1 .left)))
-    (λ w. rw (w .1) (passed-miss _ _ _ _ _ (at .inv) turn (w .0 .left))) (c .if1 .came)
+    ⊎-elim (λ w. rw (w .2) (passed-hit _ _ _ _ _ (turned .inv) turn (w .0 .taken) (w .1 .left)))
+    (λ w. rw (w .1) (passed-miss _ _ _ _ _ (turned .inv) turn (w .0 .left))) (c .if1 .came)
 
 -- src/scan.rt:29:1
 returns-2 : tie.Need-returns-2 Inv-loop μ-loop
@@ -74,7 +74,7 @@ find-entry-spec =
     shared-slice-read-if1
     returns
     add-n
-    add-i
+    add-at
     loop-less
     loop-again
     returns-2)
