@@ -1,1 +1,5 @@
 pub mod Reasons
+pub mod Answers
+pub mod TwoResults
+pub mod Exact
+pub mod Back
