@@ -1,0 +1,119 @@
+-- Each exported function, over its own contract: what C is told of refusals is what is due, and two answers are one.
+-- Assumes nothing.
+use Prim.Native.Nat.{ℕ}
+use mathlib.Core.Path.{_≡_, sym, ap, _∙_}
+use mathlib.Core.List.{List}
+use lib.Dec.{lit<}
+use lib.ListN.{length}
+use contract.Lifetimes.{Lfts}
+use denote.Ref.{RefT, now}
+use Rattle.refusal.specs.Refusal.{answer, verdict}
+use Rattle.checking.specs.Rules.{designRules}
+use Rattle.checking.specs.Reasons.{designRows}
+use Rattle.checking.proofs.Reasons.{design-exact}
+use Rattle.held.specs.Held.{fillRules}
+use Rattle.held.specs.Reasons.{fillRows}
+use Rattle.held.proofs.Reasons.{fill-exact}
+use Rattle.sizes.specs.Sizes.{sizesRules, sizesOf}
+use Rattle.sizes.specs.Reasons.{sizesRows}
+use Rattle.sizes.proofs.Reasons.{sizes-exact}
+use Rattle.layout.specs.Places.{fourOf, roleAt}
+use Rattle.address.specs.Address.{mapRules, roleRules}
+use Rattle.address.specs.Reasons.{mapRows, roleRows}
+use Rattle.address.proofs.Reasons.{map-exact, role-exact}
+use Rattle.host.specs.declared.Answer.{Answer}
+use Rattle.host.specs.declared.SizesAnswer.{SizesAnswer}
+use Rattle.host.specs.declared.MapAnswer.{MapAnswer}
+use Rattle.host.specs.declared.RoleAnswer.{RoleAnswer}
+use Rattle.host.specs.Flat.{geometry}
+use Rattle.host.specs.Told.{Told}
+use Rattle.host.proofs.Told.{front-tells, front-answer, front-sizes, front-map, front-role}
+use Rattle.host.proofs.himzolven_fill.Reads as fill
+use Rattle.host.proofs.himzolven_check.Reads as check
+use Rattle.host.proofs.himzolven_sizes.Reads as sizes
+use Rattle.host.proofs.himzolven_map.Reads as map
+use Rattle.host.proofs.himzolven_role.Reads as role
+
+-- what each contract allows
+abbrev pub FillAllowed : Lfts 1 → ℕ → RefT (List ℕ) → Answer → RefT (List ℕ) → Type 0
+FillAllowed κs v design r last = fill.Post κs (v, (design, tt)) r (v, (last, tt))
+
+abbrev pub CheckAllowed : Lfts 1 → (v k : ℕ) → RefT (List ℕ) → Answer → Type 0
+CheckAllowed κs v k design r = check.Post κs (v, (k, (design, tt))) r (v, (k, (design, tt)))
+
+abbrev pub SizesAllowed : Lfts 1 → (v k g u : ℕ) → RefT (List ℕ) → SizesAnswer → Type 0
+SizesAllowed κs v k g u design r =
+    sizes.Post κs (v, (k, (g, (u, (design, tt))))) r (v, (k, (g, (u, (design, tt)))))
+
+abbrev pub MapAllowed : Lfts 1 → (v k g u : ℕ) → RefT (List ℕ) → ℕ → MapAnswer → Type 0
+MapAllowed κs v k g u design n r =
+    map.Post κs (v, (k, (g, (u, (design, (n, tt)))))) r (v, (k, (g, (u, (design, (n, tt))))))
+
+abbrev pub RoleAllowed : Lfts 1 → (v k g u : ℕ) → RefT (List ℕ) → (disk unit : ℕ) → RoleAnswer → Type 0
+RoleAllowed κs v k g u design disk unit r =
+    role.Post κs (v, (k, (g, (u, (design, (disk, (unit, tt))))))) r (v, (k, (g, (u, (design, (disk, (unit, tt)))))))
+
+-- what C is told
+
+pub fill-told :
+    (κs : Lfts 1) (v : ℕ) (design last : RefT (List ℕ)) (r : Answer) → FillAllowed κs v design r last →
+    Told (fillRows v (length (now design))) (r .refusal) (r .place)
+fill-told κs v design last r p =
+    front-tells (fillRows v (length (now design))) (verdict (fillRules v (length (now design)))) (r .refusal) (r .place) (lit< tt, (lit< tt, tt)) (fill-exact v (length (now design)) tt)
+    (front-answer (verdict (fillRules v (length (now design)))) r (p .0))
+
+pub check-told :
+    (κs : Lfts 1) (v k : ℕ) (design : RefT (List ℕ)) (r : Answer) → CheckAllowed κs v k design r →
+    Told (designRows v k (now design)) (r .refusal) (r .place)
+check-told κs v k design r p =
+    front-tells (designRows v k (now design)) (verdict (designRules v k (now design))) (r .refusal) (r .place) (lit< tt, (lit< tt, (lit< tt, (lit< tt, tt)))) (design-exact v k (now design))
+    (front-answer (verdict (designRules v k (now design))) r p)
+
+pub sizes-told :
+    (κs : Lfts 1) (v k g u : ℕ) (design : RefT (List ℕ)) (r : SizesAnswer) → SizesAllowed κs v k g u design r →
+    Told (sizesRows (geometry v k g u) (now design)) (r .refusal) (r .place)
+sizes-told κs v k g u design r p =
+    front-tells (sizesRows (geometry v k g u) (now design)) (answer (sizesRules (geometry v k g u) (now design)) (sizesOf (geometry v k g u))) (r .refusal) (r .place) (lit< tt, (lit< tt, (lit< tt, (lit< tt, (lit< tt, tt))))) (sizes-exact (geometry v k g u) (now design) (sizesOf (geometry v k g u)))
+    (front-sizes (answer (sizesRules (geometry v k g u) (now design)) (sizesOf (geometry v k g u))) r p)
+
+pub map-told :
+    (κs : Lfts 1) (v k g u : ℕ) (design : RefT (List ℕ)) (n : ℕ) (r : MapAnswer) → MapAllowed κs v k g u design n r →
+    Told (mapRows (geometry v k g u) (now design) n) (r .refusal) (r .place)
+map-told κs v k g u design n r p =
+    front-tells (mapRows (geometry v k g u) (now design) n) (answer (mapRules (geometry v k g u) (now design) n) (fourOf (geometry v k g u) (now design) n)) (r .refusal) (r .place) (lit< tt, (lit< tt, (lit< tt, (lit< tt, (lit< tt, (lit< tt, tt)))))) (map-exact (geometry v k g u) (now design) n (fourOf (geometry v k g u) (now design) n))
+    (front-map (answer (mapRules (geometry v k g u) (now design) n) (fourOf (geometry v k g u) (now design) n)) r p)
+
+pub role-told :
+    (κs : Lfts 1) (v k g u : ℕ) (design : RefT (List ℕ)) (disk unit : ℕ) (r : RoleAnswer) →
+    RoleAllowed κs v k g u design disk unit r →
+    Told (roleRows (geometry v k g u) (now design) disk unit) (r .refusal) (r .place)
+role-told κs v k g u design disk unit r p =
+    front-tells (roleRows (geometry v k g u) (now design) disk unit) (answer (roleRules (geometry v k g u) (now design) disk unit) (roleAt (geometry v k g u) (now design) disk unit)) (r .refusal) (r .place) (lit< tt, (lit< tt, (lit< tt, (lit< tt, (lit< tt, (lit< tt, tt)))))) (role-exact (geometry v k g u) (now design) disk unit (roleAt (geometry v k g u) (now design) disk unit))
+    (front-role (answer (roleRules (geometry v k g u) (now design) disk unit) (roleAt (geometry v k g u) (now design) disk unit)) r p)
+
+-- two answers are one
+
+pub fill-two-results :
+    (κs : Lfts 1) (v : ℕ) (design d e : RefT (List ℕ)) (r s : Answer) →
+    FillAllowed κs v design r d → FillAllowed κs v design s e → (r ≡ s) × (now d ≡ now e)
+fill-two-results κs v design d e r s p q = (p .0 ∙ sym (q .0), p .1 ∙ sym (q .1))
+
+pub check-two-results :
+    (κs : Lfts 1) (v k : ℕ) (design : RefT (List ℕ)) (r s : Answer) →
+    CheckAllowed κs v k design r → CheckAllowed κs v k design s → r ≡ s
+check-two-results κs v k design r s p q = p ∙ sym q
+
+pub sizes-two-results :
+    (κs : Lfts 1) (v k g u : ℕ) (design : RefT (List ℕ)) (r s : SizesAnswer) →
+    SizesAllowed κs v k g u design r → SizesAllowed κs v k g u design s → r ≡ s
+sizes-two-results κs v k g u design r s p q = p ∙ sym q
+
+pub map-two-results :
+    (κs : Lfts 1) (v k g u : ℕ) (design : RefT (List ℕ)) (n : ℕ) (r s : MapAnswer) →
+    MapAllowed κs v k g u design n r → MapAllowed κs v k g u design n s → r ≡ s
+map-two-results κs v k g u design n r s p q = p ∙ sym q
+
+pub role-two-results :
+    (κs : Lfts 1) (v k g u : ℕ) (design : RefT (List ℕ)) (disk unit : ℕ) (r s : RoleAnswer) →
+    RoleAllowed κs v k g u design disk unit r → RoleAllowed κs v k g u design disk unit s → r ≡ s
+role-two-results κs v k g u design disk unit r s p q = p ∙ sym q

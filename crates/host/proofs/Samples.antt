@@ -1,0 +1,36 @@
+-- What C gets for an accepted answer of each kind, field by field. Assumes nothing.
+use mathlib.Core.Path.{_≡_, refl}
+use Rattle.refusal.specs.Refusal.{accepted, refused}
+use Rattle.layout.specs.Places.{place}
+use Rattle.layout.specs.Roles.{user, outer, inner}
+use Rattle.host.specs.declared.MapAnswer.{MapAnswer}
+use Rattle.host.specs.Flat.{flatMap, flatRole}
+
+-- 01's example 2, user 4: "1/1, 18/1, 2/2, 19/2"
+sample-map :
+    flatMap (accepted (record { user = place 1 1; outer = place 18 1; inner = place 2 2; both = place 19 2 }))
+    ≡ record {
+      refusal = 0;
+      place = 0;
+      «data_disk» = 1;
+      «data_unit» = 1;
+      «outer_disk» = 18;
+      «outer_unit» = 1;
+      «inner_disk» = 2;
+      «inner_unit» = 2;
+      «both_disk» = 19;
+      «both_unit» = 2;
+    }
+sample-map = refl
+
+sample-user : flatRole (accepted (user 4)) ≡ record { refusal = 0; place = 0; kind = 0; a = 4; b = 0; c = 0 }
+sample-user = refl
+
+sample-outer : flatRole (accepted (outer 1 2 3)) ≡ record { refusal = 0; place = 0; kind = 1; a = 1; b = 2; c = 3 }
+sample-outer = refl
+
+sample-inner : flatRole (accepted (inner 1 2 3)) ≡ record { refusal = 0; place = 0; kind = 2; a = 1; b = 2; c = 3 }
+sample-inner = refl
+
+sample-refused : flatRole (refused 9 0) ≡ record { refusal = 9; place = 0; kind = 0; a = 0; b = 0; c = 0 }
+sample-refused = refl
