@@ -61,7 +61,7 @@ fn mark_rows(table: &mut [u8], design: &[u16], v: usize, k: usize, b: usize)
 
 // The lowest c of which the table says that the pair a<c is bad, and v where there is none.
 fn first_bad_with(table: &[u8], v: usize, a: usize) -> usize
-    requires { ⌜ (a < v) × (v * v ≤ length (now table)) ⌝ }
+    requires { ⌜ (a < v) × (v * v ≤ length (now table)) × (v ≤ 91) ⌝ }
     ensures { λ r. ⌜ r ≡ lowest (entryBad v (now (table .entry)) a) v ⌝ }
 {
     let base = a * v;
@@ -77,7 +77,7 @@ fn first_bad_with(table: &[u8], v: usize, a: usize) -> usize
 
 // The lowest a·v+c of which the table says that the pair a<c is bad, and v·v where there is none.
 fn first_bad_in(table: &[u8], v: usize) -> usize
-    requires { ⌜ v * v ≤ length (now table) ⌝ }
+    requires { ⌜ (v * v ≤ length (now table)) × (v ≤ 91) ⌝ }
     ensures { λ r. ⌜ r ≡ lowest (numberBad v (now (table .entry))) (v * v) ⌝ }
 {
     let mut a: usize = 0;

@@ -23,7 +23,8 @@ slice-aggregate-first-bad-in : tie.Need-slice-aggregate-first-bad-in
 slice-aggregate-first-bad-in c = sym (c .before .before .mark-rows .kept .0 ∙ length-replicate {A = ℕ} 8281 0)
 
 first-bad-in-requires : tie.Need-first-bad-in-requires
-first-bad-in-requires c κs = c .before .before .mark-rows .ensures .room
+first-bad-in-requires c κs =
+    (c .before .before .mark-rows .ensures .room, c .before .before .before .before .before .pre .0 .rows .limits .v-high)
 
 returns : tie.Need-returns
 returns c =
