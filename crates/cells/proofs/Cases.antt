@@ -9,10 +9,10 @@ use mir.Val.{Fits}
 use borrow.Author.Tests.{lt-ltb, le-ltb}
 use Rattle.geometry.specs.declared.Geometry.{Geometry}
 use Rattle.geometry.specs.declared.UserUnit.{UserUnit}
-use Rattle.layout.specs.declared.Cell.{Cell}
-use Rattle.layout.specs.declared.Role.the-variants.{User}
-use Rattle.layout.specs.Cells.{parityPosition, dataPosition, dataNumber}
-use Rattle.layout.specs.Roles.{userNumber, user}
+use Rattle.cells.specs.declared.Cell.{Cell}
+use Rattle.cells.specs.declared.Role.the-variants.{User}
+use Rattle.cells.specs.Cells.{parityPosition, dataPosition, dataNumber}
+use Rattle.cells.specs.Roles.{userNumber, user}
 
 -- a row times a shift, and a column moved by it, fit
 module _ (i m : ℕ) (row : i ≤ 13) (shift : m ≤ 13) where
@@ -22,21 +22,21 @@ module _ (i m : ℕ) (row : i ≤ 13) (shift : m ≤ 13) where
   pub moved-fits : (x : ℕ) → x ≤ 13 → Fits w32 (x + i * m)
   moved-fits x h = omega (arith, mul-le-mul row shift)
 
-pub position-below : (k t m : ℕ) → m < parityPosition k t → m ≡ dataPosition k t m
+pub position-below : (G : Geometry) (t m : ℕ) → m < parityPosition G t → m ≡ dataPosition G t m
 unfolding dataPosition
-position-below k t m h = rw (lt-ltb m (parityPosition k t) h)
+position-below G t m h = rw (lt-ltb m (parityPosition G t) h)
 
-pub position-above : (k t m : ℕ) → parityPosition k t ≤ m → m + 1 ≡ dataPosition k t m
+pub position-above : (G : Geometry) (t m : ℕ) → parityPosition G t ≤ m → m + 1 ≡ dataPosition G t m
 unfolding dataPosition
-position-above k t m h = rw (le-ltb m (parityPosition k t) h, add-one)
+position-above G t m h = rw (le-ltb m (parityPosition G t) h, add-one)
 
-pub number-below : (k t l : ℕ) → l < parityPosition k t → l ≡ dataNumber k t l
+pub number-below : (G : Geometry) (t l : ℕ) → l < parityPosition G t → l ≡ dataNumber G t l
 unfolding dataNumber
-number-below k t l h = rw (lt-ltb l (parityPosition k t) h)
+number-below G t l h = rw (lt-ltb l (parityPosition G t) h)
 
-pub number-above : (k t l : ℕ) → parityPosition k t ≤ l → l - 1 ≡ dataNumber k t l
+pub number-above : (G : Geometry) (t l : ℕ) → parityPosition G t ≤ l → l - 1 ≡ dataNumber G t l
 unfolding dataNumber
-number-above k t l h = rw (le-ltb l (parityPosition k t) h, sub-one)
+number-above G t l h = rw (le-ltb l (parityPosition G t) h, sub-one)
 
 pub number-of : (G : Geometry) (t l i c a b r : ℕ) → a ≡ t * (G .k - 1) + l → b ≡ a * (G .g - 1) + i → r ≡ b * G .g + c
     → r ≡ userNumber G t l i c

@@ -1,1 +1,10 @@
+pub mod Turns
+pub mod Positions
+pub mod Numbering
+pub mod Sets
+pub mod SetNumbers
+pub mod Meets
+pub mod Roles
 pub mod Cases
+pub mod Examples
+pub mod Theorems

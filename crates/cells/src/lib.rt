@@ -3,16 +3,28 @@
 use geometry::Geometry;
 use geometry::Tuple;
 use geometry::UserUnit;
-use layout::Cell;
-use layout::Role;
 ghost use Prim.Native.Nat.{_+_, _-_, _*_, _≤_, _<_};
 ghost use mathlib.Core.Path.{_≡_};
 ghost use Rattle.geometry.specs.Geometry.{Sound, tuplesOf, userUnitsOf};
-ghost use Rattle.layout.specs.Cells.{labelColumn, labelAt, diagonalColumn, diagonalAt, parityPosition, dataPosition, dataNumber};
-ghost use Rattle.layout.specs.Sets.{outerMember, innerMember, outerParity, innerParity};
-ghost use Rattle.layout.specs.Ranges.{CellIn, OuterIn, InnerIn};
-ghost use Rattle.layout.specs.Roles.{userNumber, userCell, userOuter, innerOf, roleOf};
-ghost use Rattle.cells.specs.Ranges.{Small, DigitsIn, Fitting, digitsOf, dataCell, parityCell};
+ghost use Rattle.cells.specs.Cells.{labelColumn, labelAt, diagonalColumn, diagonalAt, parityPosition, dataPosition, dataNumber};
+ghost use Rattle.cells.specs.Sets.{outerMember, innerMember, outerParity, innerParity};
+ghost use Rattle.cells.specs.Roles.{userNumber, digitsOf, dataCell, parityCell, userCell, userOuter, innerOf, roleOf};
+ghost use Rattle.cells.specs.Ranges.{CellIn, OuterIn, InnerIn, DigitsIn, Small, Fitting};
+
+// One unit of one region of a tuple: the tuple, the region's position in it, and the unit's row and column there.
+pub struct Cell {
+    pub tuple: Tuple,
+    pub position: u32,
+    pub row: u32,
+    pub column: u32,
+}
+
+// "The way back answers, for any disk and unit: user unit n; outer parity of (t,i,c); or inner parity of (t,l,j)."
+pub enum Role {
+    User(UserUnit),
+    Outer(Tuple, u32, u32),
+    Inner(Tuple, u32, u32),
+}
 
 // User unit n is label (row,column) in the data region of this number of the tuple.
 pub struct Digits {
@@ -60,7 +72,7 @@ pub fn diagonal_at(g: u32, i: u32, x: u32) -> u32
 // "The unit at position k-1 is its parity"
 pub fn parity_position(geometry: Geometry, tuple: Tuple) -> u32
     requires { ⌜ 2 ≤ geometry .k ⌝ }
-    ensures { λ r. ⌜ (r ≡ parityPosition (geometry .k) (tuple .0)) × (r < geometry .k) ⌝ }
+    ensures { λ r. ⌜ (r ≡ parityPosition geometry (tuple .0)) × (r < geometry .k) ⌝ }
 {
     geometry.k - 1
 }
@@ -69,7 +81,7 @@ pub fn parity_position(geometry: Geometry, tuple: Tuple) -> u32
 pub fn data_position(geometry: Geometry, tuple: Tuple, region: u32) -> u32
     requires { ⌜ 2 ≤ geometry .k ⌝ }
     requires { ⌜ region < geometry .k - 1 ⌝ }
-    ensures { λ r. ⌜ (r ≡ dataPosition (geometry .k) (tuple .0) region) × (r < geometry .k) ⌝ }
+    ensures { λ r. ⌜ (r ≡ dataPosition geometry (tuple .0) region) × (r < geometry .k) ⌝ }
 {
     if region < parity_position(geometry, tuple) {
         return region;
@@ -81,8 +93,8 @@ pub fn data_position(geometry: Geometry, tuple: Tuple, region: u32) -> u32
 pub fn data_number(geometry: Geometry, tuple: Tuple, position: u32) -> u32
     requires { ⌜ 2 ≤ geometry .k ⌝ }
     requires { ⌜ position < geometry .k ⌝ }
-    requires { ⌜ (position ≡ parityPosition (geometry .k) (tuple .0) → ⊥) ⌝ }
-    ensures { λ r. ⌜ (r ≡ dataNumber (geometry .k) (tuple .0) position) × (r < geometry .k - 1) ⌝ }
+    requires { ⌜ (position ≡ parityPosition geometry (tuple .0) → ⊥) ⌝ }
+    ensures { λ r. ⌜ (r ≡ dataNumber geometry (tuple .0) position) × (r < geometry .k - 1) ⌝ }
 {
     if position < parity_position(geometry, tuple) {
         return position;

@@ -1,10 +1,6 @@
-pub mod Turns
-pub mod Positions
-pub mod Numbering
-pub mod Sets
-pub mod SetNumbers
-pub mod Roles
+pub mod Regions
 pub mod Places
 pub mod SameDisk
+pub mod Scanned
+pub mod Found
 pub mod Theorems
-pub mod Examples

@@ -8,19 +8,23 @@ use Rattle.geometry.specs.declared.Disk.{Disk}
 use Rattle.geometry.specs.Geometry.{tuplesOf, userUnitsOf}
 use Rattle.design.specs.Design.{groupAt, Laid}
 use Rattle.design.proofs.Rows.{row-once}
-use Rattle.layout.specs.declared.Cell.{Cell}
-use Rattle.layout.specs.Sets.{outerMember, innerMember, InOuter, InInner}
-use Rattle.layout.specs.Ranges.{CellIn, OuterIn, InnerIn, UserIn}
-use Rattle.layout.specs.Roles.{userTuple, userRegion, userRow, userColumn, userCell, userOuter, innerOf}
-use Rattle.layout.specs.Places.{groupOf, placeOf, fourOf}
-use Rattle.layout.specs.Theorems.{diagonalOf, FourApart}
-use Rattle.layout.proofs.Turns.{diagonal-once}
-use Rattle.layout.proofs.Positions.{dataPosition-other}
-use Rattle.layout.proofs.Numbering.{digits-only, digits-in}
-use Rattle.layout.proofs.Sets.{outer-member-in, inner-member-in, diagonal-in, on-diagonal, parity-in}
-use Rattle.layout.proofs.Roles.{user-cell-in, outer-cell-in, inner-cell-in}
+use Rattle.cells.specs.declared.Cell.{Cell}
+use Rattle.cells.specs.Cells.{diagonalOf}
+use Rattle.cells.specs.Sets.{outerMember, innerMember, InOuter, InInner}
+use Rattle.cells.specs.Ranges.{CellIn, OuterIn, InnerIn, UserIn}
+use Rattle.cells.specs.Roles.{userTuple, userRegion, userRow, userColumn, userCell, userOuter, innerOf}
+use Rattle.layout.specs.Places.{placeOf, fourOf}
+use Rattle.layout.specs.Theorems.{FourApart}
+use Rattle.cells.proofs.Turns.{diagonal-once}
+use Rattle.cells.proofs.Positions.{dataPosition-other}
+use Rattle.cells.proofs.Numbering.{digits-only, digits-in}
+use Rattle.cells.proofs.Sets.{outer-member-in, inner-member-in, diagonal-in, on-diagonal, parity-in}
+use Rattle.cells.proofs.Roles.{user-cell-in, outer-cell-in, inner-cell-in}
 
--- the disk on which a cell lies
+-- the group in whose region a cell lies, and the disk on which it lies
+abbrev groupOf : Geometry → List ℕ → Cell → ℕ
+groupOf G d x = groupAt (G .k) d (x .tuple .0) (x .position)
+
 abbrev pub diskOf : Geometry → List ℕ → Cell → Disk
 diskOf G d x = placeOf G d x .disk
 
@@ -38,7 +42,6 @@ module _ (G : Geometry) (d : List ℕ) (L : Laid G d) where
   pub one-position :
       (x y : Cell) → CellIn G x → CellIn G y → x .tuple .0 ≡ y .tuple .0 → diskOf G d x ≡ diskOf G d y →
       x .position ≡ y .position
-  unfolding groupOf
   one-position x y h q t e =
       row-once (G .v) (G .k) (tuplesOf G) d (L .design) (x .tuple .0) (h .tuple) (x .position) (y .position)
       (h .position) (q .position)
@@ -111,4 +114,4 @@ module _ (G : Geometry) (d : List ℕ) (L : Laid G d) where
       hy = outer-cell-in G (L .sound) (userTuple G n) (userRow G n) (userColumn G n) (u .label)
 
       other : x .position ≡ y .position → ⊥
-      other = dataPosition-other (G .k) (userTuple G n) (userRegion G n)
+      other = dataPosition-other G (userTuple G n) (userRegion G n)

@@ -1,7 +1,5 @@
-pub mod Cells
-pub mod Sets
-pub mod Roles
+pub mod Regions
 pub mod Places
 pub mod Ranges
+pub mod Marks
 pub mod Theorems
-pub mod Figure

@@ -1,7 +1,7 @@
 -- `cells::column_of_diagonal` meets its contract. Assumes nothing.
 use native.Mathlib.Nat.{mod-lt}
 use mathlib.Core.Path.{refl}
-use Rattle.layout.specs.Cells.{diagonalColumn}
+use Rattle.cells.specs.Cells.{diagonalColumn}
 use borrow.Author.Needs.{needs}
 use Rattle.cells.proofs.column_of_diagonal.Statement.{statement}
 use Rattle.cells.proofs.column_of_diagonal.Tie as tie

@@ -1,7 +1,7 @@
 -- `cells::diagonal_at` meets its contract. Assumes nothing.
 use native.Mathlib.Nat.{mod-lt}
 use mathlib.Core.Path.{refl}
-use Rattle.layout.specs.Cells.{diagonalAt}
+use Rattle.cells.specs.Cells.{diagonalAt}
 use borrow.Author.Needs.{needs}
 use Rattle.cells.proofs.diagonal_at.Statement.{statement}
 use Rattle.cells.proofs.diagonal_at.Tie as tie

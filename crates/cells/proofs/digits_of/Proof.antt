@@ -1,7 +1,7 @@
 -- `cells::digits_of` meets its contract. Assumes nothing.
 use mathlib.Core.Path.{refl}
-use Rattle.layout.specs.Roles.{userTuple, userRegion, userRow, userColumn}
-use Rattle.layout.proofs.Numbering.{digits-in}
+use Rattle.cells.specs.Roles.{userTuple, userRegion, userRow, userColumn}
+use Rattle.cells.proofs.Numbering.{digits-in}
 use borrow.Author.Needs.{needs}
 use Rattle.cells.proofs.digits_of.Statement.{statement}
 use Rattle.cells.proofs.digits_of.Tie as tie

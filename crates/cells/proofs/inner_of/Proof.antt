@@ -1,8 +1,8 @@
 -- `cells::inner_of` meets its contract. Assumes nothing.
 use Prim.Native.Nat.{ℕ}
 use mathlib.Core.Path.{ap, _∙_}
-use Rattle.layout.specs.Sets.{innerParity}
-use Rattle.layout.specs.Roles.{innerOf}
+use Rattle.cells.specs.Sets.{innerParity}
+use Rattle.cells.specs.Roles.{innerOf}
 use borrow.Author.Needs.{needs}
 use Rattle.cells.proofs.inner_of.Statement.{statement}
 use Rattle.cells.proofs.inner_of.Tie as tie

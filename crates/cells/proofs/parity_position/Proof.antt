@@ -1,7 +1,7 @@
 -- `cells::parity_position` meets its contract. Assumes nothing.
 use native.Mathlib.Omega.{arith}
 use mathlib.Core.Path.{refl}
-use Rattle.layout.specs.Cells.{parityPosition}
+use Rattle.cells.specs.Cells.{parityPosition}
 use borrow.Author.Needs.{needs}
 use Rattle.cells.proofs.parity_position.Statement.{statement}
 use Rattle.cells.proofs.parity_position.Tie as tie

@@ -1,8 +1,8 @@
 -- `cells::role_of` meets its contract. Assumes nothing.
 use Prim.Native.Nat.{ℕ}
 use mathlib.Core.Path.{ap, sym, _∙_}
-use Rattle.layout.specs.declared.Role.the-variants.{Outer, Inner}
-use Rattle.layout.proofs.Roles.{role-inner, role-outer, role-user}
+use Rattle.cells.specs.declared.Role.the-variants.{Outer, Inner}
+use Rattle.cells.proofs.Roles.{role-inner, role-outer, role-user}
 use Rattle.cells.proofs.Cases.{user-role}
 use borrow.Author.Needs.{needs}
 use Rattle.cells.proofs.role_of.Statement.{statement}

@@ -1,8 +1,8 @@
 -- `cells::user_cell` meets its contract. Assumes nothing.
 use mathlib.Core.Path.{ap, _∙_}
-use Rattle.layout.specs.Roles.{userCell}
+use Rattle.cells.specs.Roles.{userCell}
 use Rattle.cells.specs.declared.Digits.{Digits}
-use Rattle.cells.specs.Ranges.{dataCell}
+use Rattle.cells.specs.Roles.{dataCell}
 use borrow.Author.Needs.{needs}
 use Rattle.cells.proofs.user_cell.Statement.{statement}
 use Rattle.cells.proofs.user_cell.Tie as tie
