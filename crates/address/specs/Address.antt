@@ -8,7 +8,7 @@ use Rattle.geometry.specs.declared.Geometry.{Geometry}
 use Rattle.geometry.specs.Geometry.{disksOf, unitsOf, userUnitsOf}
 use Rattle.sizes.specs.Sizes.{sizesRules}
 use Rattle.layout.specs.declared.Four.{Four}
-use Rattle.layout.specs.declared.Role.{Role}
+use Rattle.cells.specs.declared.Role.{Role}
 use Rattle.address.specs.declared.Mapped.{Mapped}
 use Rattle.address.specs.declared.Mapped.the-variants.{Places}
 use Rattle.address.specs.declared.Mapped.the-variants.{Refused as NotMapped}

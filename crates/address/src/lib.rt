@@ -1,10 +1,10 @@
 // The address map: a user unit's four places, and the way back from a disk and unit to its role.
+use cells::Role;
 use geometry::Disk;
 use geometry::Geometry;
 use geometry::Unit;
 use geometry::UserUnit;
 use layout::Four;
-use layout::Role;
 use refusal::Checked;
 use refusal::Refusal;
 ghost use mathlib.Core.Path.{_≡_};
@@ -39,7 +39,7 @@ pub fn map(geometry: Geometry, design: &[u16], n: UserUnit) -> Mapped
             place: 0,
         });
     }
-    Mapped::Places(regions::four_of(geometry, design, n))
+    Mapped::Places(layout::four_of(geometry, design, n))
 }
 
 // What the unit of a disk is for, or the refusal: 2 to 6, 9.
@@ -59,7 +59,7 @@ pub fn role(geometry: Geometry, design: &[u16], disk: Disk, unit: Unit) -> Locat
     if geometry.units() <= unit.0 {
         return too_high();
     }
-    Located::Has(regions::role_at(geometry, design, disk, unit))
+    Located::Has(layout::role_at(geometry, design, disk, unit))
 }
 
 // "disk or unit number too high"

@@ -7,14 +7,15 @@ use Rattle.geometry.specs.Geometry.{beyondLimits, rOf, bOf, whole, noDivisorBel
 use Rattle.design.specs.Design.{groupAt, names}
 use Rattle.checking.specs.Rules.{rowBad, rowsWith, pairBad, designRules}
 use Rattle.sizes.specs.Sizes.{sizesRules, sizesOf}
-use Rattle.layout.specs.Cells.{labelColumn, diagonalAt, parityPosition, dataPosition}
-use Rattle.layout.specs.Roles.{userColumn, userRow, userRegion, userTuple, userCell, userOuter, innerOf}
-use Rattle.layout.specs.Places.{groupOf, partOf, placeOf, fourOf}
+use Rattle.cells.specs.Cells.{labelColumn, diagonalAt, parityPosition, dataPosition}
+use Rattle.cells.specs.Roles.{userColumn, userRow, userRegion, userTuple, userCell, userOuter, innerOf}
+use Rattle.layout.specs.Regions.{partOf}
+use Rattle.layout.specs.Places.{placeOf, fourOf}
 use Rattle.address.specs.Address.{mapRules}
 use Rattle.examples.specs.Examples.{Examples}
 
 pub examples : Examples
-unfolding countBelow lowest beyondLimits rOf bOf whole noDivisorBelow sizesAllowed disksOf partsOf unitsOf tuplesOf userUnitsOf tupleSetsOf setsOf bytesOf groupAt names rowBad rowsWith pairBad designRules sizesRules sizesOf labelColumn diagonalAt parityPosition dataPosition userColumn userRow userRegion userTuple userCell userOuter innerOf groupOf partOf placeOf fourOf mapRules
+unfolding countBelow lowest beyondLimits rOf bOf whole noDivisorBelow sizesAllowed disksOf partsOf unitsOf tuplesOf userUnitsOf tupleSetsOf setsOf bytesOf groupAt names rowBad rowsWith pairBad designRules sizesRules sizesOf labelColumn diagonalAt parityPosition dataPosition userColumn userRow userRegion userTuple userCell userOuter innerOf partOf placeOf fourOf mapRules
 examples =
     record {
       sizes-of-F = refl;

@@ -1,9 +1,9 @@
 // Prints figure 4 of document 000 from the proved way back: 9 lines of 21 units of design F with g = 3, each as its label, or
 // as P and its column where it is an inner parity; then a line for each unit, with its role.
 use address::Located;
+use cells::Role;
 use geometry::Disk;
 use geometry::Unit;
-use layout::Role;
 use libc::STDOUT_FILENO;
 
 fn print_word(word: &[u8], n: u32) {

@@ -12,11 +12,11 @@ ghost use Rattle.layout.specs.Places.{fourOf, roleAt};
 ghost use Rattle.host.specs.Flat.{geometry, flatAnswer, flatSizes, flatMap, flatRole, flatRoleOf};
 use address::Located;
 use address::Mapped;
+use cells::Role;
 use geometry::Disk;
 use geometry::Geometry;
 use geometry::Unit;
 use geometry::UserUnit;
-use layout::Role;
 use refusal::Checked;
 use sizes::Sized;
 
