@@ -5,6 +5,6 @@ pub mod Sets
 pub mod SetNumbers
 pub mod Meets
 pub mod Roles
-pub mod Cases
 pub mod Examples
+pub mod Steps
 pub mod Theorems

@@ -56,7 +56,7 @@ fn wide(x: u16) -> u32
 pub fn row_start(geometry: Geometry, tuple: Tuple) -> usize
     requires { ⌜ Sound geometry ⌝ }
     requires { ⌜ tuple .0 < tuplesOf geometry ⌝ }
-    ensures { λ r. ⌜ (r ≡ tuple .0 * geometry .k) × (r + geometry .k ≤ tuplesOf geometry * geometry .k) × (r ≤ 8190) ⌝ }
+    ensures { λ r. ⌜ (r ≡ tuple .0 * geometry .k) × (r + geometry .k ≤ tuplesOf geometry * geometry .k) × (r + geometry .k ≤ 8190) ⌝ }
 {
     (tuple.0 * geometry.k) as usize
 }

@@ -1,6 +1,6 @@
 -- `cells::data_number` meets its contract. Assumes nothing.
 use native.Mathlib.Omega.{arith}
-use Rattle.cells.proofs.Cases.{number-below, number-above}
+use Rattle.cells.proofs.Steps.{number-below, number-above}
 use borrow.Author.Needs.{needs}
 use Rattle.cells.proofs.data_number.Statement.{statement}
 use Rattle.cells.proofs.data_number.Tie as tie

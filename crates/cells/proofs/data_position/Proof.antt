@@ -2,7 +2,7 @@
 use native.Mathlib.Omega.{arith}
 use mathlib.Core.Path.{_≡_}
 use Rattle.cells.specs.Cells.{parityPosition}
-use Rattle.cells.proofs.Cases.{position-below, position-above}
+use Rattle.cells.proofs.Steps.{position-below, position-above}
 use borrow.Author.Needs.{needs}
 use Rattle.cells.proofs.data_position.Statement.{statement}
 use Rattle.cells.proofs.data_position.Tie as tie

@@ -3,7 +3,7 @@ use native.Mathlib.Omega.{arith}
 use native.Mathlib.Nat.{mod-lt}
 use mathlib.Core.Path.{refl}
 use Rattle.cells.specs.Cells.{labelAt}
-use Rattle.cells.proofs.Cases.{product-fits, moved-fits}
+use Rattle.cells.proofs.Steps.{product-fits, moved-fits}
 use borrow.Author.Needs.{needs}
 use Rattle.cells.proofs.label_at.Statement.{statement}
 use Rattle.cells.proofs.label_at.Tie as tie

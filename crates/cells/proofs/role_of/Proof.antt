@@ -3,7 +3,7 @@ use Prim.Native.Nat.{ℕ}
 use mathlib.Core.Path.{ap, sym, _∙_}
 use Rattle.cells.specs.declared.Role.the-variants.{Outer, Inner}
 use Rattle.cells.proofs.Roles.{role-inner, role-outer, role-user}
-use Rattle.cells.proofs.Cases.{user-role}
+use Rattle.cells.proofs.Steps.{user-role}
 use borrow.Author.Needs.{needs}
 use Rattle.cells.proofs.role_of.Statement.{statement}
 use Rattle.cells.proofs.role_of.Tie as tie

@@ -1,7 +1,7 @@
 -- `cells::user_number` meets its contract. Assumes nothing.
 use native.Mathlib.Omega.{arith}
 use Rattle.geometry.proofs.Laws.{tuples-bound}
-use Rattle.cells.proofs.Cases.{number-of}
+use Rattle.cells.proofs.Steps.{number-of}
 use borrow.Author.Needs.{needs}
 use Rattle.cells.proofs.user_number.Statement.{statement}
 use Rattle.cells.proofs.user_number.Tie as tie
