@@ -14,19 +14,20 @@ use Rattle.geometry.specs.Geometry.{userUnitsOf}
 use Rattle.design.specs.Design.{Laid}
 use Rattle.sizes.specs.Sizes.{sizesRules}
 use Rattle.sizes.proofs.Reasons.{accepted-is-laid}
-use Rattle.layout.specs.declared.Cell.{Cell}
+use Rattle.cells.specs.declared.Cell.{Cell}
+use Rattle.cells.specs.declared.Role.{Role}
+use Rattle.cells.specs.declared.Role.the-variants.{User}
+use Rattle.cells.specs.Cells.{diagonalOf, parityPosition}
+use Rattle.cells.specs.Ranges.{CellIn, RoleIn}
+use Rattle.cells.specs.Roles.{userTuple, userRow, userColumn, userCell, userOuter, innerOf, user, outer, inner, cellOf}
+use Rattle.cells.proofs.Numbering.{digits-in}
+use Rattle.cells.proofs.Roles.{user-cell-in, outer-cell-in, inner-cell-in}
+use Rattle.cells.proofs.Sets.{diagonal-in}
 use Rattle.layout.specs.declared.Place.{Place}
 use Rattle.layout.specs.declared.Four.{Four}
-use Rattle.layout.specs.declared.Role.{Role}
-use Rattle.layout.specs.declared.Role.the-variants.{User}
-use Rattle.layout.specs.Cells.{parityPosition}
-use Rattle.layout.specs.Ranges.{CellIn, PlaceIn, RoleIn}
-use Rattle.layout.specs.Roles.{userTuple, userRow, userColumn, userCell, userOuter, innerOf, user, outer, inner, cellOf}
+use Rattle.layout.specs.Ranges.{PlaceIn}
 use Rattle.layout.specs.Places.{place, placeOf, fourOf, roleAt}
-use Rattle.layout.specs.Theorems.{diagonalOf, FourApart}
-use Rattle.layout.proofs.Numbering.{digits-in}
-use Rattle.layout.proofs.Roles.{user-cell-in, outer-cell-in, inner-cell-in}
-use Rattle.layout.proofs.Sets.{diagonal-in}
+use Rattle.layout.specs.Theorems.{FourApart}
 use Rattle.layout.proofs.Places.{place-in}
 use Rattle.layout.proofs.Theorems.{the-way-back-is-the-inverse, the-roles-of-the-four-places, the-four-disks-differ, no-two-user-units-share-a-place}
 use Rattle.address.specs.declared.Mapped.{Mapped}
@@ -49,7 +50,7 @@ pub record Back (κs : Lfts 1) (G : Geometry) (design : RefT (List ℕ)) (n : �
       Answers κs G design (f .inner) (inner (userTuple G n) (userCell G n .position) (diagonalOf G (userCell G n)))
   pub of-both :
       Answers κs G design (f .both)
-      (inner (userTuple G n) (parityPosition (G .k) (userTuple G n)) (diagonalOf G (userOuter G n)))
+      (inner (userTuple G n) (parityPosition G (userTuple G n)) (diagonalOf G (userOuter G n)))
 
 abbrev number : ℕ → UserUnit
 number n = record { 0 = n }

@@ -13,7 +13,7 @@ use Rattle.geometry.specs.declared.Disk.{Disk}
 use Rattle.geometry.specs.declared.Unit.{Unit as UnitNumber}
 use Rattle.geometry.specs.declared.UserUnit.{UserUnit}
 use Rattle.layout.specs.declared.Four.{Four}
-use Rattle.layout.specs.declared.Role.{Role}
+use Rattle.cells.specs.declared.Role.{Role}
 use Rattle.layout.specs.Places.{fourOf, roleAt}
 use Rattle.address.specs.declared.Mapped.{Mapped}
 use Rattle.address.specs.declared.Mapped.the-variants.{Places}

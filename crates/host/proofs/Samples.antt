@@ -2,7 +2,7 @@
 use mathlib.Core.Path.{_≡_, refl}
 use Rattle.refusal.specs.Refusal.{accepted, refused}
 use Rattle.layout.specs.Places.{place}
-use Rattle.layout.specs.Roles.{user, outer, inner}
+use Rattle.cells.specs.Roles.{user, outer, inner}
 use Rattle.host.specs.declared.MapAnswer.{MapAnswer}
 use Rattle.host.specs.Flat.{flatMap, flatRole}
 
