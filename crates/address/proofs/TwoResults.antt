@@ -4,24 +4,23 @@ use Prim.Native.Nat.{ℕ}
 use mathlib.Core.Path.{_≡_, refl, sym, ap, _∙_}
 use mathlib.Core.List.{List}
 use contract.Lifetimes.{Lfts}
-use denote.Ref.{RefT, now}
-use Rattle.refusal.specs.Refusal.{Outcome, refused, accepted, answer}
+use denote.Ref.{RefT}
+use Rattle.refusal.specs.Refusal.{Outcome, refused, accepted}
 use Rattle.refusal.proofs.Answer.{refused-accepted}
 use Rattle.refusal.proofs.Same.{same-refusal}
 use Rattle.geometry.specs.declared.Geometry.{Geometry}
 use Rattle.geometry.specs.declared.Disk.{Disk}
 use Rattle.geometry.specs.declared.Unit.{Unit as UnitNumber}
 use Rattle.geometry.specs.declared.UserUnit.{UserUnit}
-use Rattle.layout.specs.declared.Four.{Four}
 use Rattle.cells.specs.declared.Role.{Role}
-use Rattle.layout.specs.Places.{fourOf, roleAt}
+use Rattle.layout.specs.declared.Four.{Four}
 use Rattle.address.specs.declared.Mapped.{Mapped}
 use Rattle.address.specs.declared.Mapped.the-variants.{Places}
 use Rattle.address.specs.declared.Mapped.the-variants.{Refused as NotMapped}
 use Rattle.address.specs.declared.Located.{Located}
 use Rattle.address.specs.declared.Located.the-variants.{Has}
 use Rattle.address.specs.declared.Located.the-variants.{Refused as NotLocated}
-use Rattle.address.specs.Address.{mapRules, roleRules, mappedOutcome, locatedOutcome}
+use Rattle.address.specs.Address.{mappedOutcome, locatedOutcome}
 use Rattle.address.proofs.map.Reads as map
 use Rattle.address.proofs.role.Reads as role
 
@@ -58,12 +57,11 @@ module _ (κs : Lfts 1) (G : Geometry) (design : RefT (List ℕ)) where
   map-two-results n r s p q = same-mapped r s (p ∙ sym q)
 
   pub map-some-result : (n : UserUnit) → (r : Mapped) × MapAllowed κs G design n r
-  map-some-result n = some-mapped (answer (mapRules G (now design) (n .0)) (fourOf G (now design) (n .0)))
+  map-some-result n = some-mapped _
 
   pub role-two-results :
       (x : Disk) (y : UnitNumber) (r s : Located) → RoleAllowed κs G design x y r → RoleAllowed κs G design x y s → r ≡ s
   role-two-results x y r s p q = same-located r s (p ∙ sym q)
 
   pub role-some-result : (x : Disk) (y : UnitNumber) → (r : Located) × RoleAllowed κs G design x y r
-  role-some-result x y =
-      some-located (answer (roleRules G (now design) (x .0) (y .0)) (roleAt G (now design) (x .0) (y .0)))
+  role-some-result x y = some-located _

@@ -3,12 +3,12 @@ use Prim.Native.Nat.{ℕ}
 use mathlib.Core.Bool.{_||_}
 use mathlib.Core.List.{List, [], _∷_, _++_}
 use lib.Dec.{leb}
-use Rattle.refusal.specs.Refusal.{Rule, rule, Outcome, refused, accepted, answer}
+use Rattle.refusal.specs.Refusal.{Rule, rule, Outcome, refused, accepted}
 use Rattle.geometry.specs.declared.Geometry.{Geometry}
 use Rattle.geometry.specs.Geometry.{disksOf, unitsOf, userUnitsOf}
 use Rattle.sizes.specs.Sizes.{sizesRules}
-use Rattle.layout.specs.declared.Four.{Four}
 use Rattle.cells.specs.declared.Role.{Role}
+use Rattle.layout.specs.declared.Four.{Four}
 use Rattle.address.specs.declared.Mapped.{Mapped}
 use Rattle.address.specs.declared.Mapped.the-variants.{Places}
 use Rattle.address.specs.declared.Mapped.the-variants.{Refused as NotMapped}

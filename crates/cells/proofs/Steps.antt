@@ -14,13 +14,16 @@ use Rattle.cells.specs.declared.Role.the-variants.{User}
 use Rattle.cells.specs.Cells.{parityPosition, dataPosition, dataNumber}
 use Rattle.cells.specs.Roles.{userNumber, user}
 
--- a row times a shift, and a column moved by it, fit
-module _ (i m : ℕ) (row : i ≤ 13) (shift : m ≤ 13) where
-  pub product-fits : Fits w32 (i * m)
-  product-fits = omega (arith, mul-le-mul row shift)
+-- a number times a base of at most 13 fits, and so does it with one more digit, or a column moved by it
+module _ (a m : ℕ) (high : a ≤ 1100000) (base : m ≤ 13) where
+  pub product-fits : Fits w32 (a * m)
+  product-fits = omega (arith, mul-le-mul high base)
 
-  pub moved-fits : (x : ℕ) → x ≤ 13 → Fits w32 (x + i * m)
-  moved-fits x h = omega (arith, mul-le-mul row shift)
+  pub digit-fits : (x : ℕ) → x ≤ 13 → Fits w32 (a * m + x)
+  digit-fits x h = omega (arith, mul-le-mul high base)
+
+  pub moved-fits : (x : ℕ) → x ≤ 13 → Fits w32 (x + a * m)
+  moved-fits x h = omega (arith, mul-le-mul high base)
 
 pub position-below : (G : Geometry) (t m : ℕ) → m < parityPosition G t → m ≡ dataPosition G t m
 unfolding dataPosition

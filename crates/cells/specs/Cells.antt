@@ -16,7 +16,7 @@ cell t l i x = record { tuple = record { 0 = t }; position = l; row = i; column 
 unfoldable pub labelColumn : (g l i c : ℕ) → ℕ
 labelColumn g l i c = (c + i * l) % g
 
--- the label's c of what stands at position l in row i and column x: 000's "(j - i×l) mod g" [for l ≤ g and 1 ≤ g]
+-- the label's c of what stands at position l in row i and column x: 000's "(j-i×l) mod g" [for l ≤ g and 1 ≤ g]
 unfoldable pub labelAt : (g l i x : ℕ) → ℕ
 labelAt g l i x = (x + i * (g - l)) % g
 

@@ -30,7 +30,7 @@ abbrev pub The-cell-of-an-inner-parity : Type 0
 The-cell-of-an-inner-parity =
     (G : Geometry) (t l j : ℕ) → cellOf G (inner t l j) ≡ cell t l (G .g - 1) (G .g - 1 - j)
 
--- "User unit n ..; outer parity of (t,i,c); or inner parity of (t,l,j)": each cell has one role and each role one cell
+-- "user unit n; outer parity of (t,i,c); or inner parity of (t,l,j)": each cell has one role and each role one cell
 pub record OneRoleEach (G : Geometry) : Type 0 where
   pub there : (ρ : Role) → RoleIn G ρ → CellIn G (cellOf G ρ)
   pub back : (ρ : Role) → RoleIn G ρ → roleOf G (cellOf G ρ) ≡ ρ

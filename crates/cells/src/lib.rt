@@ -5,9 +5,9 @@ use geometry::Tuple;
 use geometry::UserUnit;
 ghost use Prim.Native.Nat.{_+_, _-_, _*_, _≤_, _<_};
 ghost use mathlib.Core.Path.{_≡_};
-ghost use Rattle.geometry.specs.Geometry.{Sound, tuplesOf, userUnitsOf};
+ghost use Rattle.geometry.specs.Geometry.{Sound, userUnitsOf};
 ghost use Rattle.cells.specs.Cells.{labelColumn, labelAt, diagonalColumn, diagonalAt, parityPosition, dataPosition, dataNumber};
-ghost use Rattle.cells.specs.Sets.{outerMember, innerMember, outerParity, innerParity};
+ghost use Rattle.cells.specs.Sets.{outerMember, innerParity};
 ghost use Rattle.cells.specs.Roles.{userNumber, digitsOf, dataCell, parityCell, userCell, userOuter, innerOf, roleOf};
 ghost use Rattle.cells.specs.Ranges.{CellIn, OuterIn, InnerIn, DigitsIn, Small, Fitting};
 

@@ -24,13 +24,17 @@ use Rattle.layout.specs.Ranges.{RegionIn}
 use Rattle.layout.proofs.Regions.{part-in-rows}
 use Rattle.layout.proofs.Places.{disk-group, unit-part}
 
--- a row's end is within the list
-pub row-within : (G : Geometry) (t : ℕ) → t < tuplesOf G → t * G .k + G .k ≤ tuplesOf G * G .k
-row-within G t h = omega (arith, mul-le-mul-right (G .k) h)
-
-pub entries-high : (G : Geometry) → Sound G → tuplesOf G * G .k ≤ 8190
+entries-high : (G : Geometry) → Sound G → tuplesOf G * G .k ≤ 8190
 unfolding tuplesOf
 entries-high G s = entries-bound (G .v) (G .k) (s .limits)
+
+-- a row's end is within the list
+pub row-within :
+    (G : Geometry) → Sound G → (t : ℕ) → t < tuplesOf G →
+    (t * G .k + G .k ≤ tuplesOf G * G .k) × (t * G .k + G .k ≤ 8190)
+row-within G s t h =
+    let within : t * G .k + G .k ≤ tuplesOf G * G .k = omega (arith, mul-le-mul-right (G .k) h) in
+    (within, omega (arith, entries-high G s))
 
 module _ (G : Geometry) (d : List ℕ) (L : Laid G d) where
   -- the group read at its entry, and the part counted up to its row

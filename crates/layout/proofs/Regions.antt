@@ -4,7 +4,6 @@ use Prim.Native.Nat.{ℕ, _<_}
 use mathlib.Core.Path.{_≡_, _∙_, ap, refl, sym}
 use mathlib.Core.Bool.{true}
 use mathlib.Core.List.{List}
-use native.Mathlib.Omega.{arith}
 use Rattle.counting.specs.Counting.{countBelow}
 use Rattle.counting.proofs.Laws.{count-lt, nth-count, nth-lt, nth-holds, count-nth}
 use Rattle.geometry.specs.declared.Geometry.{Geometry}

@@ -12,7 +12,7 @@ use borrow.Author.Count.{below-none, below-more}
 use borrow.Author.Tests.{eq-eqb, ne-eqb}
 use Rattle.counting.specs.Counting.{countBelow, nthBelow}
 use Rattle.counting.proofs.Bools.{both-and, and-left-false, and-right-false}
-use Rattle.counting.proofs.Laws.{lowest-is, lowest-none, count-zero, count-more, count-same-more, count-le}
+use Rattle.counting.proofs.Laws.{lowest-is, lowest-none, count-zero, count-more, count-same-more}
 use Rattle.design.proofs.Entries.{isEntry}
 
 -- n of the entries before i are the group a

@@ -14,7 +14,6 @@ use Rattle.cells.specs.Cells.{diagonalOf}
 use Rattle.cells.specs.Roles.{userCell, userOuter, innerOf, user, inner, roleOf, cellOf}
 use Rattle.cells.specs.Ranges.{CellIn}
 use Rattle.cells.proofs.Numbering.{digits-in}
-use Rattle.cells.proofs.Positions.{dataPosition-lt}
 use Rattle.cells.proofs.Sets as sets
 use Rattle.cells.proofs.Roles as roles
 use Rattle.layout.specs.Regions.{partOf}

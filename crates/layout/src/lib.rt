@@ -11,7 +11,7 @@ use geometry::Part;
 use geometry::Tuple;
 use geometry::Unit;
 use geometry::UserUnit;
-ghost use Prim.Native.Nat.{ℕ, _+_, _*_, _≤_, _<_};
+ghost use Prim.Native.Nat.{_+_, _*_, _≤_, _<_};
 ghost use mathlib.Core.Path.{_≡_};
 ghost use Rattle.geometry.specs.Geometry.{Sound, tuplesOf, disksOf, unitsOf, userUnitsOf};
 ghost use Rattle.design.specs.Design.{Laid};

@@ -9,10 +9,10 @@ use Rattle.cells.proofs.column_of_label.Statement.{statement}
 use Rattle.cells.proofs.column_of_label.Tie as tie
 
 mul-result : tie.Need-mul-result
-mul-result c = product-fits _ _ (c .pre .i-high) (omega arith)
+mul-result c = product-fits _ _ (omega arith) (omega arith)
 
 add-result : tie.Need-add-result
-add-result c = moved-fits _ _ (c .pre .i-high) (omega arith) _ (c .pre .x-high)
+add-result c = moved-fits _ _ (omega arith) (omega arith) _ (c .pre .x-high)
 
 rem-result : tie.Need-rem-result
 rem-result c = search needs

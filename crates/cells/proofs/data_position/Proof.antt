@@ -1,7 +1,5 @@
 -- `cells::data_position` meets its contract. Assumes nothing.
 use native.Mathlib.Omega.{arith}
-use mathlib.Core.Path.{_≡_}
-use Rattle.cells.specs.Cells.{parityPosition}
 use Rattle.cells.proofs.Steps.{position-below, position-above}
 use borrow.Author.Needs.{needs}
 use Rattle.cells.proofs.data_position.Statement.{statement}

@@ -1,14 +1,15 @@
 -- `cells::digit_after` meets its contract. Assumes nothing.
 use native.Mathlib.Omega.{arith}
-use native.Mathlib.Nat.{mul-le-mul, mul-le-mul-left}
+use native.Mathlib.Nat.{mul-le-mul-left}
+use Rattle.cells.proofs.Steps.{product-fits, digit-fits}
 use Rattle.cells.proofs.digit_after.Statement.{statement}
 use Rattle.cells.proofs.digit_after.Tie as tie
 
 mul-result : tie.Need-mul-result
-mul-result c = omega (arith, mul-le-mul (c .pre .high-high) (c .pre .m-high))
+mul-result c = product-fits _ _ (c .pre .high-high) (c .pre .m-high)
 
 add-result : tie.Need-add-result
-add-result c = omega (arith, mul-le-mul (c .pre .high-high) (c .pre .m-high))
+add-result c = digit-fits _ _ (c .pre .high-high) (c .pre .m-high) _ (c .pre .low-high)
 
 returns : tie.Need-returns
 returns c = omega (arith, mul-le-mul-left (c .args .high) (c .pre .m-high))

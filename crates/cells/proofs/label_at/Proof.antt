@@ -12,10 +12,10 @@ sub-result : tie.Need-sub-result
 sub-result c = search needs
 
 mul-result : tie.Need-mul-result
-mul-result c = product-fits _ _ (c .pre .0 .i-high) (omega arith)
+mul-result c = product-fits _ _ (omega arith) (omega arith)
 
 add-result : tie.Need-add-result
-add-result c = moved-fits _ _ (c .pre .0 .i-high) (omega arith) _ (c .pre .0 .x-high)
+add-result c = moved-fits _ _ (omega arith) (omega arith) _ (c .pre .0 .x-high)
 
 rem-result : tie.Need-rem-result
 rem-result c = search needs

@@ -1,7 +1,6 @@
 -- `cells::outer_member` meets its contract. Assumes nothing.
 use Prim.Native.Nat.{ℕ}
 use mathlib.Core.Path.{ap}
-use Rattle.cells.specs.declared.Cell.{Cell}
 use Rattle.cells.specs.Cells.{cell}
 use borrow.Author.Needs.{needs}
 use Rattle.cells.proofs.outer_member.Statement.{statement}

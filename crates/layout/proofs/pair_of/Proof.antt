@@ -1,5 +1,4 @@
 -- `layout::pair_of` meets its contract. Assumes nothing.
-use Prim.Native.Nat.{ℕ}
 use Rattle.layout.proofs.Found.{place-found, inner-found}
 use borrow.Author.Needs.{needs}
 use Rattle.layout.proofs.pair_of.Statement.{statement}
