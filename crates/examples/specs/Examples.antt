@@ -3,7 +3,8 @@
 -- sets. Places are disk/unit: data, outer parity, inner of data, inner of outer." Assumes nothing.
 use Prim.Native.Nat.{ℕ}
 use mathlib.Core.Path.{_≡_}
-use mathlib.Core.List.{List, [], _∷_}
+use mathlib.Core.List.{List, [], _∷_, _++_}
+use lib.ListN.{take}
 use Rattle.refusal.specs.Refusal.{Outcome, refused, accepted, answer, verdict}
 use Rattle.geometry.specs.declared.Geometry.{Geometry}
 use Rattle.checking.specs.Rules.{designRules}
@@ -28,15 +29,7 @@ four w x y z = accepted (record { user = w; outer = x; inner = y; both = z })
 
 -- F with its last row 1 4 6
 abbrev pub brokenF : List ℕ
-brokenF =
-    0 ∷ 2 ∷ 6
-    ∷ 0 ∷ 1 ∷ 3
-    ∷ 1 ∷ 2 ∷ 4
-    ∷ 2 ∷ 3 ∷ 5
-    ∷ 3 ∷ 4 ∷ 6
-    ∷ 0 ∷ 4 ∷ 5
-    ∷ 1 ∷ 4 ∷ 6
-    ∷ []
+brokenF = take 18 F ++ (1 ∷ 4 ∷ 6 ∷ [])
 
 -- example 12's geometry
 abbrev pub smallest : Geometry
