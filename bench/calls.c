@@ -38,7 +38,12 @@ static uint64_t sum;
 static void once(int proved, const char *call, uint32_t i) {
     uint32_t users = (uint32_t)(length / k) * (k - 1) * (g - 1) * g;
     uint32_t disks = v * g, units = (v - 1) / (k - 1) * g;
-    if (strcmp(call, "check") == 0) {
+    if (strcmp(call, "fill") == 0) {
+        static uint16_t filled[8192];
+        sum += himzolven_fill(v, filled, (size_t)v * k).refusal;
+    } else if (strcmp(call, "sizes") == 0) {
+        sum += himzolven_sizes(v, k, g, 512, design, length).disks;
+    } else if (strcmp(call, "check") == 0) {
         himzolven_answer a = proved ? himzolven_check(v, k, design, length) : plain_check(v, k, design, length);
         sum += a.refusal;
     } else if (strcmp(call, "map") == 0) {
@@ -79,7 +84,7 @@ int main(int argc, char **argv) {
     if (argc == 5 && strcmp(argv[1], "stack") == 0) {
         v = (uint32_t)atoi(argv[2]), k = (uint32_t)atoi(argv[3]), g = (uint32_t)atoi(argv[4]);
         make();
-        printf("%zu %zu %zu\n", touched("check"), touched("map"), touched("role"));
+        printf("%zu %zu %zu %zu %zu\n", touched("check"), touched("map"), touched("role"), touched("sizes"), touched("fill"));
         return 0;
     }
     if (argc != 7) {

@@ -1,4 +1,4 @@
-/* Himzolven: the OI-RAID layout (RAID5 across groups of disks and RAID5 inside each group), proved to the byte.
+/* Himzolven: the OI-RAID layout (RAID5 across groups of disks and RAID5 inside each group), proved.
  *
  * Link with target/staticlib/libhost.a. The Rattle source of every function here is proved to answer as docs/REVIEW.md states
  * it, for every input. The compiler's back end, this header and the archive are tested, not proved.
@@ -13,7 +13,8 @@
  * Numbers. Any number is allowed for every parameter: it is tested before it is used. Pass no wider type than the parameter's:
  * C would cut it silently (-Wconversion finds that).
  *
- * Lists. `design` points to `length` numbers. NULL is allowed where `length` is 0. Elsewhere the list must be readable (for
+ * Lists. `design` points to `length` numbers. NULL with `length` 0 is the empty list: nothing is read or written, and the call is
+ * refused by 1, 2 or 3. Elsewhere the list must be readable (for
  * himzolven_fill also writable), aligned for uint16_t, and `length` its true length: no function can check that. No list is kept
  * after the call returns.
  *
@@ -96,7 +97,8 @@ typedef struct {
     uint32_t c;
 } himzolven_role_answer;
 
-/* Fills the list with the design of a held v (7, 13, 21, 31, 57, 73, 91). Refusals 1, 3. */
+/* Fills the list with the design of a held v. The length for each v, 7: 21, 13: 52, 21: 105, 31: 186, 57: 456, 73: 657,
+ * 91: 910. Refusals 1, 3. */
 himzolven_answer himzolven_fill(uint32_t v, uint16_t *design, size_t length);
 
 /* Checks that the list is a design of v groups in rows of k. Refusals 2, 3, 4, 5. */

@@ -1,1 +1,1 @@
-//
+// Definitions and laws alone: what a design is.

@@ -16,7 +16,8 @@ HeldSet (x ∷ xs) v s = ((x .v ≡ v) × (x .set ≡ s)) ⊎ HeldSet xs v s
 abbrev pub NoSet : ℕ → Type 0
 NoSet v = (s : List ℕ) → HeldSet table v s → ⊥
 
--- "list length not b·k": the set of v has k members, its design b rows, and the list has n entries
+-- "list length not b·k": the set of v has k members, its design b rows, and the list has n entries [for 1 ≤ v and a set
+-- that is not empty]
 abbrev pub NotFilled : (v n : ℕ) → Type 0
 NotFilled v n =
     (s : List ℕ) × (b : ℕ) × HeldSet table v s × (b * (length s * (length s - 1)) ≡ v * (v - 1)) × (n ≡ b * length s → ⊥)

@@ -4,7 +4,7 @@ use Rattle.refusal.specs.Refusal.{accepted, refused}
 use Rattle.layout.specs.Places.{place}
 use Rattle.cells.specs.Roles.{user, outer, inner}
 use Rattle.host.specs.declared.MapAnswer.{MapAnswer}
-use Rattle.host.specs.Flat.{flatMap, flatRole}
+use Rattle.host.specs.Flat.{flatSizes, flatMap, flatRole}
 
 -- 01's example 2, user 4: "1/1, 18/1, 2/2, 19/2"
 sample-map :
@@ -34,3 +34,19 @@ sample-inner = refl
 
 sample-refused : flatRole (refused 9 0) ≡ record { refusal = 9; place = 0; kind = 0; a = 0; b = 0; c = 0 }
 sample-refused = refl
+
+-- 01's design F: "21 disks of 9 units, 84 user units, 105 sets"
+sample-sizes :
+    flatSizes (accepted (record { parts = 3; tuples = 7; disks = 21; units = 9; users = 84; sets = 105; bytes = 189 }))
+    ≡ record {
+      refusal = 0;
+      place = 0;
+      parts = 3;
+      tuples = 7;
+      disks = 21;
+      units = 9;
+      «user_units» = 84;
+      sets = 105;
+      bytes = 189;
+    }
+sample-sizes = refl

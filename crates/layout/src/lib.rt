@@ -1,5 +1,5 @@
-// Where the cells of a design's tuples lie on the disks, and which cell lies at a place. A tuple's two regions are each
-// looked up once.
+// Where the cells of a design's tuples lie on the disks, and which cell lies at a place. The map looks up each of its two
+// regions once.
 pub mod scan; // scan.rt: a group's entries in the design
 
 use cells::Cell;
