@@ -1,2 +1,4 @@
 pub mod Runs
+pub mod Sums
 pub mod Xor
+pub mod Zero

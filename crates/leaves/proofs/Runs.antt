@@ -10,7 +10,7 @@ use lib.Bits.{bitXor, xor-comm, xor-self, xor-zero-r}
 use lib.ListN.{getD, length, take, drop, replicate, length-append, length-take, length-drop, length-replicate, List·getD-eq-default, take-append-drop}
 use lib.Seq.{getD-take, getD-drop, ext-getD}
 use Rattle.leaves.specs.Bytes.{xors, run, addAt, addAll, laid, Apart}
-use Rattle.leaves.proofs.Xor.{xor-assoc, xor-left-comm, xor-cancel}
+use Rattle.leaves.proofs.Xor.{xor-assoc, xor-cancel, xor-swap}
 
 -- ---- a list by its bytes
 pub record Bytes (x : List ℕ) (n : ℕ) (f : ℕ → ℕ) : Type 0 where
@@ -206,7 +206,7 @@ addAt-append a p e f =
 pub addAt-comm : (a : List ℕ) (p : ℕ) (e : List ℕ) (q : ℕ) (f : List ℕ) → addAt (addAt a p e) q f ≡ addAt (addAt a q f) p e
 addAt-comm a p e q f =
     same-bytes (bytes-addAt (bytes-addAt (bytes-of a) p e) q f) (bytes-addAt (bytes-addAt (bytes-of a) q f) p e)
-    (λ i l. xor-assoc (getD a i 0) (laid p e i) (laid q f i) ∙ ap (bitXor (getD a i 0)) (xor-comm (laid p e i) (laid q f i)) ∙ sym (xor-assoc (getD a i 0) (laid q f i) (laid p e i)))
+    (λ i l. xor-swap (getD a i 0) (laid p e i) (laid q f i))
 
 -- the run to which e was added
 pub run-addAt : (a : List ℕ) (p : ℕ) (e : List ℕ) → p + length e ≤ length a → run (addAt a p e) p (length e) ≡ xors (run a p (length e)) e

@@ -40,6 +40,12 @@ xor-left-comm a b c = sym (xor-assoc a b c) ∙ ap (λ (x : ℕ). bitXor x c) (x
 pub xor-cancel : (a b : ℕ) → bitXor a (bitXor a b) ≡ b
 xor-cancel a b = sym (xor-assoc a a b) ∙ ap (λ (x : ℕ). bitXor x b) (xor-self a)
 
+pub xor-swap : (a b c : ℕ) → bitXor (bitXor a b) c ≡ bitXor (bitXor a c) b
+xor-swap a b c = xor-assoc a b c ∙ ap (bitXor a) (xor-comm b c) ∙ sym (xor-assoc a c b)
+
+pub xor-twice : (a b : ℕ) → bitXor (bitXor a b) b ≡ a
+xor-twice a b = xor-assoc a b b ∙ ap (bitXor a) (xor-self b) ∙ xor-zero-r a
+
 pub xor-byte : (a b : ℕ) → a < 256 → b < 256 → bitXor a b < 256
 xor-byte a b p q = xor-lt 8 a b p q
 

@@ -63,6 +63,10 @@ pub record Apart (p m q n : ℕ) : Type 0 where
 pub record Inside (m : ℕ) (ps : List ℕ) (u : ℕ) : Type 0 where
   pub inside : (t : ℕ) → t < length ps → getD ps t 0 + u ≤ m
 
+-- the runs of u bytes from two different positions of the list lie apart
+pub record Spread (ps : List ℕ) (u : ℕ) : Type 0 where
+  pub spread : (s t : ℕ) → s < length ps → t < length ps → (s ≡ t → ⊥) → Apart (getD ps s 0) u (getD ps t 0) u
+
 -- four runs of n bytes lie inside m bytes, and the first lies apart from the other three
 pub record Four (m p q r s n : ℕ) : Type 0 where
   pub at-p : p + n ≤ m
