@@ -1,4 +1,5 @@
+pub mod Filled
 pub mod Runs
 pub mod Sums
 pub mod Xor
-pub mod Zero
+pub mod Zeros

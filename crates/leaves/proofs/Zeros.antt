@@ -59,6 +59,16 @@ zero-one f =
 pub zero-more : (f : ℕ → ℕ) (n : ℕ) → zeroBelow f (n + 1) ≡ (zeroBelow f n && eqb (f n) 0)
 zero-more f n = zero-add f n 1 ∙ ap (λ (b : Bool). zeroBelow f n && b) (zero-one (λ (i : ℕ). f (n + i)) ∙ ap (λ (k : ℕ). eqb (f k) 0) (add-zero n))
 
--- a turn of the loop that ORs
-pub zero-or : (f : ℕ → ℕ) (n x : ℕ) → eqb x 0 ≡ zeroBelow f n → eqb (bitOr x (f n)) 0 ≡ zeroBelow f (n + 1)
-zero-or f n x h = or-is-zero x (f n) ∙ ap (λ (b : Bool). b && eqb (f n) 0) h ∙ sym (zero-more f n)
+-- ---- a loop that ORs the first n numbers: what holds at i
+pub record Ored (f : ℕ → ℕ) (n x i : ℕ) : Type 0 where
+  pub most : i ≤ n
+  pub is : eqb x 0 ≡ zeroBelow f i
+
+pub ored-none : (f : ℕ → ℕ) (n : ℕ) → Ored f n 0 0
+ored-none f n = record { most = omega arith; is = sym (zero-none f) }
+
+pub ored-more : {f : ℕ → ℕ} {n x i : ℕ} → Ored f n x i → i < n → Ored f n (bitOr x (f i)) (i + 1)
+ored-more {f} {n} {x} {i} o h = record { most = omega arith; is = or-is-zero x (f i) ∙ ap (λ (b : Bool). b && eqb (f i) 0) (o .is) ∙ sym (zero-more f i) }
+
+pub ored-all : {f : ℕ → ℕ} {n x i : ℕ} → Ored f n x i → n ≤ i → eqb x 0 ≡ zeroBelow f n
+ored-all {f} {n} {x} {i} o h = let e : i ≡ n = omega (arith, o .most) in o .is ∙ ap (zeroBelow f) e
