@@ -9,6 +9,7 @@ use native.Mathlib.Omega.{arith}
 use lib.Bits.{bitXor, xor-comm, xor-self, xor-zero-r}
 use lib.ListN.{getD, length, take, drop, replicate, length-append, length-take, length-drop, length-replicate, List·getD-eq-default, take-append-drop}
 use lib.Seq.{getD-take, getD-drop, ext-getD}
+use borrow.Rule.Slice.PartMut.{midOf, putMid}
 use Rattle.leaves.specs.Bytes.{xors, run, addAt, addAll, laid, Apart}
 use Rattle.leaves.proofs.Xor.{xor-assoc, xor-cancel, xor-swap}
 
@@ -218,6 +219,22 @@ run-apart a p e q n h =
     same-bytes (rw (length-addAt a p e) at (bytes-run-any (addAt a p e) q n)) (bytes-run-any a q n)
     (λ (i : ℕ) (l : i < min n (length a - q)). addAt-out a p e (q + i) (⊎-elim (λ (k : p + length e ≤ q). inr (omega arith)) (λ (k : q + n ≤ p). inl (omega arith)) (h .apart)))
 
+-- a part lent from p on comes back with e added to it
+xors-front : (x e : List ℕ) (k : ℕ) → length e ≤ k → xors (take k x) e ++ drop k x ≡ xors x e
+unfolding xors
+xors-front [] e zero h = refl
+xors-front [] e (suc k) h = refl
+xors-front (a ∷ x) [] zero h = refl
+xors-front (a ∷ x) [] (suc k) h = ap (λ (l : List ℕ). a ∷ l) (take-append-drop k x)
+xors-front (a ∷ x) (b ∷ e) zero h = absurd (omega arith)
+xors-front (a ∷ x) (b ∷ e) (suc k) h = ap (λ (l : List ℕ). bitXor a b ∷ l) (xors-front x e k (omega arith))
+
+pub put-xors : (a : List ℕ) (p : ℕ) (e y : List ℕ) → y ≡ xors (midOf p (p + length e - p) a) e → putMid p (p + length e - p) a y ≡ addAt a p e
+unfolding addAt
+put-xors a p e y g =
+    ap (λ (l : List ℕ). take p a ++ (l ++ drop (p + length e - p) (drop p a))) g
+    ∙ ap (λ (l : List ℕ). take p a ++ l) (xors-front (drop p a) e (p + length e - p) (omega arith))
+
 -- ---- adding at several positions
 pub length-addAll : (a ps e : List ℕ) → length (addAll a ps e) ≡ length a
 unfolding addAll
@@ -229,6 +246,12 @@ pub addAll-addAt : (a ps e : List ℕ) (q : ℕ) (f : List ℕ) → addAll (addA
 unfolding addAll
 addAll-addAt a [] e q f = refl
 addAll-addAt a (p ∷ ps) e q f = ap (λ (x : List ℕ). addAll x ps e) (addAt-comm a q f p e) ∙ addAll-addAt (addAt a p e) ps e q f
+
+-- one position after the other
+pub addAll-four :
+    (a b c d x : List ℕ) (p q r s : ℕ) (e : List ℕ) → b ≡ addAt a p e → c ≡ addAt b q e → d ≡ addAt c r e → x ≡ addAt d s e → x ≡ addAll a (p ∷ q ∷ r ∷ s ∷ []) e
+unfolding addAll
+addAll-four a b c d x p q r s e hb hc hd hx = hx ∙ ap (λ (l : List ℕ). addAt l s e) (hd ∙ ap (λ (l : List ℕ). addAt l r e) (hc ∙ ap (λ (l : List ℕ). addAt l q e) hb))
 
 pub addAll-zero : (a ps e : List ℕ) → ((i : ℕ) → getD e i 0 ≡ 0) → addAll a ps e ≡ a
 unfolding addAll

@@ -3,7 +3,8 @@
 ghost use mathlib.Core.Path.{_≡_};
 ghost use Prim.Native.Nat.{_+_, _≤_};
 ghost use lib.ListN.{length, replicate};
-ghost use Rattle.leaves.specs.Bytes.{xors, allZero};
+ghost use mathlib.Core.List.{[], _∷_};
+ghost use Rattle.leaves.specs.Bytes.{xors, run, addAt, addAll, allZero};
 
 // XORs src into the first bytes of dst.
 pub fn xor_into(dst: &mut [u8], src: &[u8])
@@ -61,4 +62,24 @@ pub fn zero(src: &[u8]) -> bool
         i += 1;
     }
     any == 0
+}
+
+// XORs e into the array from p on. Every store of a write goes through here, on a part that starts at its offset.
+pub fn add_run(array: &mut [u8], p: usize, e: &[u8])
+    requires { ⌜ p + length (now e) ≤ length (now array) ⌝ }
+    ensures { λ _. ⌜ now (array .exit) ≡ addAt (now (array .entry)) p (now (e .entry)) ⌝ }
+{
+    let end = p + e.len();
+    xor_into(&mut array[p..end], e);
+}
+
+// The same bytes at four places.
+fn add_at_four(array: &mut [u8], p: usize, q: usize, r: usize, s: usize, e: &[u8])
+    requires { ⌜ (p + length (now e) ≤ length (now array)) × (q + length (now e) ≤ length (now array)) × (r + length (now e) ≤ length (now array)) × (s + length (now e) ≤ length (now array)) ⌝ }
+    ensures { λ _. ⌜ now (array .exit) ≡ addAll (now (array .entry)) (p ∷ q ∷ r ∷ s ∷ []) (now (e .entry)) ⌝ }
+{
+    add_run(array, p, e);
+    add_run(array, q, e);
+    add_run(array, r, e);
+    add_run(array, s, e);
 }
