@@ -1,5 +1,6 @@
 pub mod Filled
 pub mod Runs
 pub mod Sums
+pub mod Writes
 pub mod Xor
 pub mod Zeros

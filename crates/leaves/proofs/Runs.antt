@@ -111,6 +111,12 @@ run-run a p n q m h k =
     same-bytes (bytes-run (run a p n) q m (rw (length-run a p n k) h)) (bytes-run a (p + q) m (omega arith))
     (λ (i : ℕ) (l : i < m). at-run a p n (q + i) (omega arith) ∙ ap (λ (j : ℕ). getD a j 0) (sym (add-assoc p q i)))
 
+-- XOR run by run
+pub run-xors : (x y : List ℕ) (p n : ℕ) → p + n ≤ length x → xors (run x p n) (run y p n) ≡ run (xors x y) p n
+run-xors x y p n h =
+    same-bytes (bytes-xors (bytes-run x p n h) (run y p n)) (bytes-run (xors x y) p n (rw (length-xors x y) h))
+    (λ (i : ℕ) (l : i < n). ap (bitXor (getD x (p + i) 0)) (at-run y p n i l) ∙ sym (at-xors x y (p + i) (omega arith)))
+
 -- ---- what is laid at a position
 pub laid-before : (p : ℕ) (e : List ℕ) (i : ℕ) → i < p → laid p e i ≡ 0
 unfolding laid

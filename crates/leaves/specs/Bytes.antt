@@ -30,6 +30,10 @@ unfoldable pub addAll : List ℕ → List ℕ → List ℕ → List ℕ
 addAll a [] e = a
 addAll a (p ∷ ps) e = addAll (addAt a p e) ps e
 
+-- what a write of new at p changes: the XOR of the old and the new bytes
+abbrev pub differenceAt : List ℕ → ℕ → List ℕ → List ℕ
+differenceAt a p new = xors (run a p (length new)) new
+
 -- what addAt XORs into byte i: e laid from p on, and 0 before and after it
 unfoldable pub laid : ℕ → List ℕ → ℕ → ℕ
 laid p e i = getD (replicate p 0 ++ e) i 0

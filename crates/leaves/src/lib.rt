@@ -1,10 +1,10 @@
 // Bytes in one lent list: XOR, copy and zero test. A run is lent as a part that starts at its offset, so each leaf sees plain
 // slices. Every loop is one that a compiler turns into vector instructions: no early exit inside it.
 ghost use mathlib.Core.Path.{_≡_};
-ghost use Prim.Native.Nat.{_+_, _≤_};
+ghost use Prim.Native.Nat.{_+_, _≤_, _<_};
 ghost use lib.ListN.{length, replicate};
 ghost use mathlib.Core.List.{[], _∷_};
-ghost use Rattle.leaves.specs.Bytes.{xors, run, addAt, addAll, allZero};
+ghost use Rattle.leaves.specs.Bytes.{xors, addAt, addAll, differenceAt, allZero, Four};
 
 // XORs src into the first bytes of dst.
 pub fn xor_into(dst: &mut [u8], src: &[u8])
@@ -82,4 +82,28 @@ fn add_at_four(array: &mut [u8], p: usize, q: usize, r: usize, s: usize, e: &[u8
     add_run(array, q, e);
     add_run(array, r, e);
     add_run(array, s, e);
+}
+
+// One block of a write. Its difference stays in registers, and is whole before the first store.
+fn add_block(array: &mut [u8], p: usize, q: usize, r: usize, s: usize, new: &[u8])
+    requires { ⌜ (length (now new) ≡ 64) × Four (length (now array)) p q r s (length (now new)) ⌝ }
+    ensures { λ _. ⌜ now (array .exit) ≡ addAll (now (array .entry)) (p ∷ q ∷ r ∷ s ∷ []) (differenceAt (now (array .entry)) p (now (new .entry))) ⌝ }
+{
+    let end = p + 64;
+    let mut e = [0u8; 64];
+    difference(&mut e, &array[p..end], new);
+    add_at_four(array, p, q, r, s, &e);
+}
+
+// What is left of a write after its blocks.
+fn add_rest(array: &mut [u8], p: usize, q: usize, r: usize, s: usize, new: &[u8])
+    requires { ⌜ (length (now new) < 64) × Four (length (now array)) p q r s (length (now new)) ⌝ }
+    ensures { λ _. ⌜ now (array .exit) ≡ addAll (now (array .entry)) (p ∷ q ∷ r ∷ s ∷ []) (differenceAt (now (array .entry)) p (now (new .entry))) ⌝ }
+{
+    let n = new.len();
+    let end = p + n;
+    let mut room = [0u8; 64];
+    let e = &mut room[..n];
+    difference(e, &array[p..end], new);
+    add_at_four(array, p, q, r, s, e);
 }

@@ -1,0 +1,107 @@
+-- A write of bytes as the difference to what was there, added at several places. Assumes nothing.
+use Prim.Native.Nat.{ℕ, zero, suc, _+_, _-_, _≤_, _<_}
+use mathlib.Core.Path.{_≡_, refl, sym, _∙_, ap, ap₂}
+use mathlib.Core.List.{List, [], _∷_, _++_}
+use mathlib.Core.Logic.{⊎-elim, inl, inr}
+use native.Mathlib.Omega.{arith}
+use native.Mathlib.Nat.{add-sub-cancel-left}
+use lib.ListN.{getD, length, take, drop, replicate}
+use lib.Seq.{length-take-le, take-add, take-all}
+use borrow.Rule.Slice.PartMut.{midOf, mid-len}
+use Rattle.leaves.specs.Bytes.{xors, run, addAt, addAll, differenceAt, Apart, Four}
+use Rattle.leaves.proofs.Runs.{bytes-zeros, length-xors, length-run, run-run, run-xors, further, addAll-nil, addAll-append, length-addAll, run-all-apart}
+
+-- a part of n zeros
+pub front-zeros : (k n : ℕ) → n ≤ k → n ≡ length {A = ℕ} (take n (replicate k 0))
+front-zeros k n h = sym (length-take-le n (replicate k 0) (rw (bytes-zeros k .long) h))
+
+-- k bytes lent from p on
+pub part-length : (a : List ℕ) (p k : ℕ) → p + k ≤ length a → length (midOf p (p + k - p) a) ≡ k
+part-length a p k h = mid-len p (p + k) a h ∙ add-sub-cancel-left p k
+
+-- one block: the difference to the part lent from p on, added at the places
+pub block-added :
+    (a x e new ps : List ℕ) (p k : ℕ) → length new ≡ k → e ≡ xors (midOf p (p + k - p) a) new → x ≡ addAll a ps e → x ≡ addAll a ps (differenceAt a p new)
+unfolding run
+block-added a x e new ps p k h g f =
+    f ∙ ap (addAll a ps) (g ∙ ap (λ (n : ℕ). xors (midOf p n a) new) (add-sub-cancel-left p k ∙ sym h))
+
+-- ---- block after block
+apart-part : (p n q i k : ℕ) → i + k ≤ n → Apart p n q n → Apart (p + i) k (q + i) k
+apart-part p n q i k h a = record { apart = ⊎-elim (λ (l : p + n ≤ q). inl (omega arith)) (λ (l : q + n ≤ p). inr (omega arith)) (a .apart) }
+
+apart-before : (p n q i k : ℕ) → i + k ≤ n → Apart p n q n → Apart q i (p + i) k
+apart-before p n q i k h a = record { apart = ⊎-elim (λ (l : p + n ≤ q). inr (omega arith)) (λ (l : q + n ≤ p). inl (omega arith)) (a .apart) }
+
+-- the four runs, i bytes further on and k bytes long
+pub four-part : (m p q r s n i k : ℕ) → Four m p q r s n → i + k ≤ n → Four m (p + i) (q + i) (r + i) (s + i) k
+four-part m p q r s n i k f h = record {
+  at-p = omega (arith, f .at-p);
+  at-q = omega (arith, f .at-q);
+  at-r = omega (arith, f .at-r);
+  at-s = omega (arith, f .at-s);
+  from-q = apart-part p n q i k h (f .from-q);
+  from-r = apart-part p n r i k h (f .from-r);
+  from-s = apart-part p n s i k h (f .from-s);
+}
+
+-- and the first i bytes of each lie apart from the next k of the first
+four-before : (m p q r s n i k : ℕ) → Four m p q r s n → i + k ≤ n → (t : ℕ) → t < 4 → Apart (getD (p ∷ q ∷ r ∷ s ∷ []) t 0) i (p + i) k
+four-before m p q r s n i k f h zero l = record { apart = inl (omega arith) }
+four-before m p q r s n i k f h (suc zero) l = apart-before p n q i k h (f .from-q)
+four-before m p q r s n i k f h (suc (suc zero)) l = apart-before p n r i k h (f .from-r)
+four-before m p q r s n i k f h (suc (suc (suc zero))) l = apart-before p n s i k h (f .from-s)
+four-before m p q r s n i k f h (suc (suc (suc (suc t)))) l = absurd (omega arith)
+
+-- at i: the first i bytes of the difference are added
+pub record Wrote (a₀ : List ℕ) (p q r s : ℕ) (new a : List ℕ) (i : ℕ) : Type 0 where
+  pub fits : Four (length a₀) p q r s (length new)
+  pub most : i ≤ length new
+  pub long : length a ≡ length a₀
+  pub is : a ≡ addAll a₀ (p ∷ q ∷ r ∷ s ∷ []) (take i (differenceAt a₀ p new))
+
+pub wrote-none : (a : List ℕ) (p q r s : ℕ) (new : List ℕ) → Four (length a) p q r s (length new) → Wrote a p q r s new a 0
+wrote-none a p q r s new f = record { fits = f; most = omega arith; long = refl; is = sym (addAll-nil a (p ∷ q ∷ r ∷ s ∷ [])) }
+
+module _ {a₀ : List ℕ} {p q r s : ℕ} {new a : List ℕ} {i : ℕ} (w : Wrote a₀ p q r s new a i) where
+  abbrev d : List ℕ
+  d = differenceAt a₀ p new
+
+  length-d : length d ≡ length new
+  length-d = length-xors (run a₀ p (length new)) new ∙ length-run a₀ p (length new) (w .fits .at-p)
+
+  length-done : length (take i d) ≡ i
+  length-done = length-take-le i d (rw length-d (w .most))
+
+  -- the run at p from i on is still as it was
+  still : (k : ℕ) → i + k ≤ length new → run a (p + i) k ≡ run a₀ (p + i) k
+  still k h =
+      ap (λ (l : List ℕ). run l (p + i) k) (w .is)
+      ∙ run-all-apart a₀ (p ∷ q ∷ r ∷ s ∷ []) (take i d) (p + i) k (rw length-done (four-before (length a₀) p q r s (length new) i k (w .fits) h))
+
+  -- so the difference of a block is a run of the whole difference
+  block-difference : (k : ℕ) → i + k ≤ length new → differenceAt a (p + i) (run new i k) ≡ run d i k
+  block-difference k h =
+      rw (length-run new i k h, still k h)
+      (ap (λ (l : List ℕ). xors l (run new i k)) (sym (run-run a₀ p (length new) i k h (w .fits .at-p)))
+      ∙ run-xors (run a₀ p (length new)) new i k (rw (length-run a₀ p (length new) (w .fits .at-p)) h))
+
+  take-run : (n k : ℕ) → take n d ++ run d n k ≡ take (n + k) d
+  unfolding run
+  take-run n k = sym (take-add n k d)
+
+  pub wrote-more :
+      (k : ℕ) (b : List ℕ) → i + k ≤ length new → b ≡ addAll a ((p + i) ∷ (q + i) ∷ (r + i) ∷ (s + i) ∷ []) (differenceAt a (p + i) (run new i k))
+      → Wrote a₀ p q r s new b (i + k)
+  wrote-more k b h e = record {
+    fits = w .fits;
+    most = h;
+    long = ap length e ∙ length-addAll a _ _ ∙ w .long;
+    is =
+        e ∙ ap (addAll a (further i (p ∷ q ∷ r ∷ s ∷ []))) (block-difference k h)
+        ∙ ap₂ (λ (l : List ℕ) (n : ℕ). addAll l (further n (p ∷ q ∷ r ∷ s ∷ [])) (run d i k)) (w .is) (sym length-done)
+        ∙ sym (addAll-append a₀ (p ∷ q ∷ r ∷ s ∷ []) (take i d) (run d i k)) ∙ ap (addAll a₀ (p ∷ q ∷ r ∷ s ∷ [])) (take-run i k);
+  }
+
+  pub wrote-all : length new ≤ i → a ≡ addAll a₀ (p ∷ q ∷ r ∷ s ∷ []) d
+  wrote-all h = w .is ∙ ap (addAll a₀ (p ∷ q ∷ r ∷ s ∷ [])) (take-all i d (rw length-d h))
