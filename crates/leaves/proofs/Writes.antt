@@ -4,7 +4,7 @@ use mathlib.Core.Path.{_≡_, refl, sym, _∙_, ap, ap₂}
 use mathlib.Core.List.{List, [], _∷_, _++_}
 use mathlib.Core.Logic.{⊎-elim, inl, inr}
 use native.Mathlib.Omega.{arith}
-use native.Mathlib.Nat.{add-sub-cancel-left}
+use native.Mathlib.Nat.{add-sub-cancel-left, le-refl}
 use lib.ListN.{getD, length, take, drop, replicate}
 use lib.Seq.{length-take-le, take-add, take-all}
 use borrow.Rule.Slice.PartMut.{midOf, mid-len}
@@ -86,22 +86,43 @@ module _ {a₀ : List ℕ} {p q r s : ℕ} {new a : List ℕ} {i : ℕ} (w : Wro
       (ap (λ (l : List ℕ). xors l (run new i k)) (sym (run-run a₀ p (length new) i k h (w .fits .at-p)))
       ∙ run-xors (run a₀ p (length new)) new i k (rw (length-run a₀ p (length new) (w .fits .at-p)) h))
 
-  take-run : (n k : ℕ) → take n d ++ run d n k ≡ take (n + k) d
+  further-on : (k : ℕ) (b : List ℕ) → i + k ≤ length new → b ≡ addAll a (further i (p ∷ q ∷ r ∷ s ∷ [])) (differenceAt a (p + i) (run new i k)) → b ≡ addAll a₀ (p ∷ q ∷ r ∷ s ∷ []) (take i d ++ run d i k)
+  further-on k b h e =
+      e ∙ ap (addAll a (further i (p ∷ q ∷ r ∷ s ∷ []))) (block-difference k h)
+      ∙ ap₂ (λ (l : List ℕ) (n : ℕ). addAll l (further n (p ∷ q ∷ r ∷ s ∷ [])) (run d i k)) (w .is) (sym length-done)
+      ∙ sym (addAll-append a₀ (p ∷ q ∷ r ∷ s ∷ []) (take i d) (run d i k))
+
+  -- the part from i to end
+  wrote-fits : (end : ℕ) → i ≤ end → end ≤ length new → Four (length a) (p + i) (q + i) (r + i) (s + i) (length (midOf i (end - i) new))
+  wrote-fits end l h = rw (mid-len i end new h, w .long) (four-part (length a₀) p q r s (length new) i (end - i) (w .fits) (omega arith))
+
+  wrote-more :
+      (end : ℕ) (b : List ℕ) → i ≤ end → end ≤ length new → b ≡ addAll a ((p + i) ∷ (q + i) ∷ (r + i) ∷ (s + i) ∷ []) (differenceAt a (p + i) (midOf i (end - i) new))
+      → Wrote a₀ p q r s new b end
   unfolding run
-  take-run n k = sym (take-add n k d)
+  wrote-more end b l h e =
+      let k : i + (end - i) ≡ end = omega arith in
+      record {
+        fits = w .fits;
+        most = h;
+        long = ap length e ∙ length-addAll a _ _ ∙ w .long;
+        is = further-on (end - i) b (omega arith) e ∙ ap (addAll a₀ (p ∷ q ∷ r ∷ s ∷ [])) (sym (take-add i (end - i) d) ∙ ap (λ (n : ℕ). take n d) k);
+      }
 
-  pub wrote-more :
-      (k : ℕ) (b : List ℕ) → i + k ≤ length new → b ≡ addAll a ((p + i) ∷ (q + i) ∷ (r + i) ∷ (s + i) ∷ []) (differenceAt a (p + i) (run new i k))
+  -- a block of k bytes
+  pub wrote-block-fits : (k : ℕ) → i + k ≤ length new → (length (midOf i (i + k - i) new) ≡ k) × Four (length a) (p + i) (q + i) (r + i) (s + i) (length (midOf i (i + k - i) new))
+  wrote-block-fits k h = (part-length new i k h, wrote-fits (i + k) (omega arith) h)
+
+  pub wrote-block :
+      (k : ℕ) (b : List ℕ) → i + k ≤ length new → b ≡ addAll a ((p + i) ∷ (q + i) ∷ (r + i) ∷ (s + i) ∷ []) (differenceAt a (p + i) (midOf i (i + k - i) new))
       → Wrote a₀ p q r s new b (i + k)
-  wrote-more k b h e = record {
-    fits = w .fits;
-    most = h;
-    long = ap length e ∙ length-addAll a _ _ ∙ w .long;
-    is =
-        e ∙ ap (addAll a (further i (p ∷ q ∷ r ∷ s ∷ []))) (block-difference k h)
-        ∙ ap₂ (λ (l : List ℕ) (n : ℕ). addAll l (further n (p ∷ q ∷ r ∷ s ∷ [])) (run d i k)) (w .is) (sym length-done)
-        ∙ sym (addAll-append a₀ (p ∷ q ∷ r ∷ s ∷ []) (take i d) (run d i k)) ∙ ap (addAll a₀ (p ∷ q ∷ r ∷ s ∷ [])) (take-run i k);
-  }
+  wrote-block k b h = wrote-more (i + k) b (omega arith) h
 
-  pub wrote-all : length new ≤ i → a ≡ addAll a₀ (p ∷ q ∷ r ∷ s ∷ []) d
-  wrote-all h = w .is ∙ ap (addAll a₀ (p ∷ q ∷ r ∷ s ∷ [])) (take-all i d (rw length-d h))
+  -- what is left
+  pub wrote-rest-fits : (k : ℕ) → length new < i + k → (length (midOf i (length new - i) new) < k) × Four (length a) (p + i) (q + i) (r + i) (s + i) (length (midOf i (length new - i) new))
+  wrote-rest-fits k h = (rw (mid-len i (length new) new (le-refl (length new))) (omega (arith, w .most)), wrote-fits (length new) (w .most) (le-refl (length new)))
+
+  pub wrote-rest :
+      (b : List ℕ) → b ≡ addAll a ((p + i) ∷ (q + i) ∷ (r + i) ∷ (s + i) ∷ []) (differenceAt a (p + i) (midOf i (length new - i) new))
+      → b ≡ addAll a₀ (p ∷ q ∷ r ∷ s ∷ []) d
+  wrote-rest b e = wrote-more (length new) b (w .most) (le-refl (length new)) e .is ∙ ap (addAll a₀ (p ∷ q ∷ r ∷ s ∷ [])) (take-all (length new) d (rw length-d (le-refl (length new))))

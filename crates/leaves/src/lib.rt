@@ -107,3 +107,17 @@ fn add_rest(array: &mut [u8], p: usize, q: usize, r: usize, s: usize, new: &[u8]
     difference(e, &array[p..end], new);
     add_at_four(array, p, q, r, s, e);
 }
+
+// Writes new at p, and keeps zero what XORed to zero before: the difference to what was there goes to p, q, r and s, block by block.
+pub fn add_four(array: &mut [u8], p: usize, q: usize, r: usize, s: usize, new: &[u8])
+    requires { ⌜ Four (length (now array)) p q r s (length (now new)) ⌝ }
+    ensures { λ _. ⌜ now (array .exit) ≡ addAll (now (array .entry)) (p ∷ q ∷ r ∷ s ∷ []) (differenceAt (now (array .entry)) p (now (new .entry))) ⌝ }
+{
+    let mut i: usize = 0;
+    while i + 64 <= new.len() {
+        let end = i + 64;
+        add_block(array, p + i, q + i, r + i, s + i, &new[i..end]);
+        i = end;
+    }
+    add_rest(array, p + i, q + i, r + i, s + i, &new[i..]);
+}
