@@ -3,13 +3,13 @@ use Prim.Native.Nat.{ℕ, zero, suc, _+_, _-_, _≤_, _<_, min}
 use mathlib.Core.Path.{_≡_, refl, sym, _∙_, ap, ap₂, subst}
 use mathlib.Core.List.{List, [], _∷_, _++_, map}
 use mathlib.Core.Logic.{_⊎_, inl, inr, ⊎-elim}
-use native.Mathlib.Nat.{zero-add, add-zero, add-assoc, add-suc, suc-add}
+use native.Mathlib.Nat.{zero-add, add-assoc, suc-add, add-sub-cancel-left}
 use native.Mathlib.Decide.{decLt}
 use native.Mathlib.Omega.{arith}
 use lib.Bits.{bitXor, xor-comm, xor-self, xor-zero-r}
 use lib.ListN.{getD, length, take, drop, replicate, length-append, length-take, length-drop, length-replicate, List·getD-eq-default, take-append-drop}
-use lib.Seq.{getD-take, getD-drop, ext-getD}
-use borrow.Rule.Slice.PartMut.{midOf, putMid}
+use lib.Seq.{getD-take, getD-drop, length-take-le, ext-getD}
+use borrow.Rule.Slice.PartMut.{midOf, putMid, mid-len}
 use Rattle.leaves.specs.Bytes.{xors, run, addAt, addAll, laid, Apart}
 use Rattle.leaves.proofs.Xor.{xor-assoc, xor-cancel, xor-swap}
 
@@ -33,6 +33,21 @@ at-zeros (suc n) (suc i) = at-zeros n i
 
 pub bytes-zeros : (n : ℕ) → Bytes (replicate n 0) n (λ (i : ℕ). 0)
 bytes-zeros n = record { long = length-replicate n 0; at = λ i l. at-zeros n i }
+
+-- ---- lent parts
+-- n of k zeros
+pub front-zeros : (k n : ℕ) → n ≤ k → n ≡ length {A = ℕ} (take n (replicate k 0))
+front-zeros k n h = sym (length-take-le n (replicate k 0) (rw (bytes-zeros k .long) h))
+
+pub at-front-zeros : (k n i : ℕ) → _≡_ {A = ℕ} (getD (take n (replicate k 0)) i 0) 0
+at-front-zeros k zero i = refl
+at-front-zeros zero (suc n) i = refl
+at-front-zeros (suc k) (suc n) zero = refl
+at-front-zeros (suc k) (suc n) (suc i) = at-front-zeros k n i
+
+-- k bytes from p on
+pub part-length : (a : List ℕ) (p k : ℕ) → p + k ≤ length a → length (midOf p (p + k - p) a) ≡ k
+part-length a p k h = mid-len p (p + k) a h ∙ add-sub-cancel-left p k
 
 -- ---- xors
 pub length-xors : (x y : List ℕ) → length (xors x y) ≡ length x

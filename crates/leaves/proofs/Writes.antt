@@ -5,19 +5,11 @@ use mathlib.Core.List.{List, [], _∷_, _++_}
 use mathlib.Core.Logic.{⊎-elim, inl, inr}
 use native.Mathlib.Omega.{arith}
 use native.Mathlib.Nat.{add-sub-cancel-left, le-refl}
-use lib.ListN.{getD, length, take, drop, replicate}
+use lib.ListN.{getD, length, take, drop}
 use lib.Seq.{length-take-le, take-add, take-all}
 use borrow.Rule.Slice.PartMut.{midOf, mid-len}
 use Rattle.leaves.specs.Bytes.{xors, run, addAt, addAll, differenceAt, Apart, Four}
-use Rattle.leaves.proofs.Runs.{bytes-zeros, length-xors, length-run, run-run, run-xors, further, addAll-nil, addAll-append, length-addAll, run-all-apart}
-
--- a part of n zeros
-pub front-zeros : (k n : ℕ) → n ≤ k → n ≡ length {A = ℕ} (take n (replicate k 0))
-front-zeros k n h = sym (length-take-le n (replicate k 0) (rw (bytes-zeros k .long) h))
-
--- k bytes lent from p on
-pub part-length : (a : List ℕ) (p k : ℕ) → p + k ≤ length a → length (midOf p (p + k - p) a) ≡ k
-part-length a p k h = mid-len p (p + k) a h ∙ add-sub-cancel-left p k
+use Rattle.leaves.proofs.Runs.{part-length, length-xors, length-run, run-run, run-xors, further, addAll-nil, addAll-append, length-addAll, run-all-apart}
 
 -- one block: the difference to the part lent from p on, added at the places
 pub block-added :

@@ -8,7 +8,7 @@ use native.Mathlib.Omega.{arith}
 use lib.Bits.{bitOr}
 use lib.Dec.{eqb}
 use borrow.Author.Tests.{eq-eqb, ne-eqb, eqb-true, not-true, not-false}
-use Rattle.counting.proofs.Bools.{and-both, both-and, not-is-true, not-is-false}
+use Rattle.counting.proofs.Bools.{and-both, both-and, and-left-false, not-is-true, not-is-false}
 use Rattle.counting.proofs.Laws.{any-none, none-any, any-true}
 use Rattle.leaves.specs.Bytes.{zeroBelow}
 use Rattle.leaves.proofs.Xor.{or-is-zero}
@@ -50,6 +50,12 @@ zero-add f m n =
     same-truth (zeroBelow f (m + n)) (zeroBelow f m && zeroBelow (λ (i : ℕ). f (m + i)) n)
     (λ t. both-and _ _ (zero-is f m (λ (i : ℕ) (l : i < m). zero-holds f (m + n) t i (omega arith))) (zero-is _ n (λ (i : ℕ) (l : i < n). zero-holds f (m + n) t (m + i) (omega arith))))
     (λ t. let b : (zeroBelow f m ≡ true) × (zeroBelow (λ (i : ℕ). f (m + i)) n ≡ true) = and-both _ _ t in zero-is f (m + n) (λ (i : ℕ) (l : i < m + n). zero-both f m n (b .0) (b .1) i l (decLt i m)))
+
+-- what fails early fails
+pub zero-fails : (f : ℕ → ℕ) (m n : ℕ) → m ≤ n → zeroBelow f m ≡ false → zeroBelow f n ≡ false
+zero-fails f m n h e =
+    let k : n ≡ m + (n - m) = omega arith in
+    ap (zeroBelow f) k ∙ zero-add f m (n - m) ∙ and-left-false (zeroBelow f m) _ e
 
 zero-one : (f : ℕ → ℕ) → zeroBelow f 1 ≡ eqb (f 0) 0
 zero-one f =

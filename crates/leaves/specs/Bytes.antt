@@ -55,6 +55,10 @@ zeroBelow f n = not (anyBelow (λ (i : ℕ). not (eqb (f i) 0)) n)
 abbrev pub allZero : List ℕ → Bool
 allZero xs = zeroBelow (λ (i : ℕ). getD xs i 0) (length xs)
 
+-- n offsets from i on XOR to zero
+abbrev pub zeroSumFrom : List ℕ → List ℕ → (i n : ℕ) → Bool
+zeroSumFrom a ps i n = zeroBelow (λ (j : ℕ). sumAt a ps (i + j)) n
+
 -- all of the first u offsets XOR to zero
 abbrev pub zeroSum : List ℕ → List ℕ → ℕ → Bool
 zeroSum a ps u = zeroBelow (λ (i : ℕ). sumAt a ps i) u

@@ -4,7 +4,7 @@ ghost use mathlib.Core.Path.{_≡_};
 ghost use Prim.Native.Nat.{_+_, _≤_, _<_};
 ghost use lib.ListN.{length, replicate};
 ghost use mathlib.Core.List.{[], _∷_};
-ghost use Rattle.leaves.specs.Bytes.{xors, addAt, addAll, differenceAt, allZero, Four};
+ghost use Rattle.leaves.specs.Bytes.{xors, addAt, addAll, differenceAt, sums, allZero, zeroSum, zeroSumFrom, Inside, Four};
 
 // XORs src into the first bytes of dst.
 pub fn xor_into(dst: &mut [u8], src: &[u8])
@@ -120,4 +120,55 @@ pub fn add_four(array: &mut [u8], p: usize, q: usize, r: usize, s: usize, new: &
         i = end;
     }
     add_rest(array, p + i, q + i, r + i, s + i, &new[i..]);
+}
+
+// XORs into room, for every source, the bytes that it has from offset i on: one source a turn, so any number of them.
+pub fn gather(room: &mut [u8], array: &[u8], starts: &[usize], i: usize)
+    requires { ⌜ Inside (length (now array)) (now starts) (i + length (now room)) ⌝ }
+    ensures { λ _. ⌜ now (room .exit) ≡ xors (now (room .entry)) (sums (now (array .entry)) (now (starts .entry)) i (length (now (room .entry)))) ⌝ }
+{
+    let n = room.len();
+    let mut t: usize = 0;
+    while t < starts.len() {
+        let p = starts[t] + i;
+        let end = p + n;
+        xor_into(room, &array[p..end]);
+        t += 1;
+    }
+}
+
+// Whether one block of the sources XORs to zero. The block stays in registers.
+fn zero_block(array: &[u8], starts: &[usize], i: usize) -> bool
+    requires { ⌜ Inside (length (now array)) (now starts) (i + 64) ⌝ }
+    ensures { λ r. ⌜ r ≡ zeroSumFrom (now (array .entry)) (now (starts .entry)) i 64 ⌝ }
+{
+    let mut room = [0u8; 64];
+    gather(&mut room, array, starts, i);
+    zero(&room)
+}
+
+// The same for what is left after the blocks.
+fn zero_rest(array: &[u8], starts: &[usize], i: usize, n: usize) -> bool
+    requires { ⌜ (n < 64) × Inside (length (now array)) (now starts) (i + n) ⌝ }
+    ensures { λ r. ⌜ r ≡ zeroSumFrom (now (array .entry)) (now (starts .entry)) i n ⌝ }
+{
+    let mut room = [0u8; 64];
+    let e = &mut room[..n];
+    gather(e, array, starts, i);
+    zero(e)
+}
+
+// Whether the runs of u bytes from the starts XOR to zero at every offset.
+pub fn zero_sum(array: &[u8], starts: &[usize], u: usize) -> bool
+    requires { ⌜ Inside (length (now array)) (now starts) u ⌝ }
+    ensures { λ r. ⌜ r ≡ zeroSum (now (array .entry)) (now (starts .entry)) u ⌝ }
+{
+    let mut i: usize = 0;
+    while 64 <= u - i {
+        if !zero_block(array, starts, i) {
+            return false;
+        }
+        i += 64;
+    }
+    zero_rest(array, starts, i, u - i)
 }

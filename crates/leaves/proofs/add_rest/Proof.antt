@@ -2,7 +2,8 @@
 use mathlib.Core.Path.{_≡_, _∙_, refl, sym}
 use native.Mathlib.Omega.{arith}
 use lib.ListN.{length}
-use Rattle.leaves.proofs.Writes.{front-zeros, part-length, block-added}
+use Rattle.leaves.proofs.Runs.{front-zeros, part-length}
+use Rattle.leaves.proofs.Writes.{block-added}
 use borrow.Author.Needs.{needs}
 use Rattle.leaves.proofs.add_rest.Statement.{statement}
 use Rattle.leaves.proofs.add_rest.Tie as tie
