@@ -1,6 +1,5 @@
 pub mod Filled
 pub mod Runs
 pub mod Sums
-pub mod Writes
 pub mod Xor
 pub mod Zeros

@@ -1,10 +1,10 @@
--- `leaves::zero_block` meets its contract. Assumes nothing.
+-- `runs::zero_block` meets its contract. Assumes nothing.
 use mathlib.Core.Path.{refl}
 use Rattle.leaves.proofs.Runs.{at-zeros}
-use Rattle.leaves.proofs.Sums.{zero-gathered}
+use Rattle.runs.proofs.Gathered.{zero-gathered}
 use borrow.Author.Needs.{needs}
-use Rattle.leaves.proofs.zero_block.Statement.{statement}
-use Rattle.leaves.proofs.zero_block.Tie as tie
+use Rattle.runs.proofs.zero_block.Statement.{statement}
+use Rattle.runs.proofs.zero_block.Tie as tie
 
 slice-aggregate-gather : tie.Need-slice-aggregate-gather
 slice-aggregate-gather c = search needs

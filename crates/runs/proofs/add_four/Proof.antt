@@ -1,10 +1,10 @@
--- `leaves::add_four` meets its contract: after each block, what is done is the difference up to there. Assumes nothing.
+-- `runs::add_four` meets its contract: after each block, what is done is the difference up to there. Assumes nothing.
 use Prim.Native.Nat.{_-_}
 use lib.ListN.{length}
-use Rattle.leaves.proofs.Writes.{Wrote, wrote-none, wrote-block-fits, wrote-block, wrote-rest-fits, wrote-rest}
+use Rattle.runs.proofs.Writes.{Wrote, wrote-none, wrote-block-fits, wrote-block, wrote-rest-fits, wrote-rest}
 use borrow.Author.Needs.{needs}
-use Rattle.leaves.proofs.add_four.Statement.{statement}
-use Rattle.leaves.proofs.add_four.Tie as tie
+use Rattle.runs.proofs.add_four.Statement.{statement}
+use Rattle.runs.proofs.add_four.Tie as tie
 
 abbrev Inv-loop : tie.InvT-loop
 Inv-loop array₀ p q r s new i₀ array i = Wrote array₀ p q r s new array i

@@ -1,8 +1,8 @@
--- `leaves::add_at_four` meets its contract. Assumes nothing.
+-- `runs::add_at_four` meets its contract. Assumes nothing.
 use Rattle.leaves.proofs.Runs.{addAll-four}
 use borrow.Author.Needs.{needs}
-use Rattle.leaves.proofs.add_at_four.Statement.{statement}
-use Rattle.leaves.proofs.add_at_four.Tie as tie
+use Rattle.runs.proofs.add_at_four.Statement.{statement}
+use Rattle.runs.proofs.add_at_four.Tie as tie
 
 add-run-requires : tie.Need-add-run-requires
 add-run-requires c κs = search needs

@@ -1,8 +1,8 @@
--- `leaves::add_run` meets its contract. Assumes nothing.
+-- `runs::add_run` meets its contract. Assumes nothing.
 use Rattle.leaves.proofs.Runs.{put-xors}
 use borrow.Author.Needs.{needs}
-use Rattle.leaves.proofs.add_run.Statement.{statement}
-use Rattle.leaves.proofs.add_run.Tie as tie
+use Rattle.runs.proofs.add_run.Statement.{statement}
+use Rattle.runs.proofs.add_run.Tie as tie
 
 add-end : tie.Need-add-end
 add-end c = search needs

@@ -1,8 +1,8 @@
--- `leaves::add_block` meets its contract. Assumes nothing.
-use Rattle.leaves.proofs.Writes.{block-added}
+-- `runs::add_block` meets its contract. Assumes nothing.
+use Rattle.runs.proofs.Writes.{block-added}
 use borrow.Author.Needs.{needs}
-use Rattle.leaves.proofs.add_block.Statement.{statement}
-use Rattle.leaves.proofs.add_block.Tie as tie
+use Rattle.runs.proofs.add_block.Statement.{statement}
+use Rattle.runs.proofs.add_block.Tie as tie
 
 add-end : tie.Need-add-end
 add-end c = search needs

@@ -1,10 +1,10 @@
--- `leaves::zero_sum` meets its contract: after each block, all offsets up to there XOR to zero. Assumes nothing.
+-- `runs::zero_sum` meets its contract: after each block, all offsets up to there XOR to zero. Assumes nothing.
 use Prim.Native.Nat.{_-_}
-use Rattle.leaves.proofs.Sums.{Zeroed, zeroed-none, zeroed-in, zeroed-more, zeroed-not, zeroed-rest-in, zeroed-rest}
+use Rattle.runs.proofs.Gathered.{Zeroed, zeroed-none, zeroed-in, zeroed-more, zeroed-not, zeroed-rest-in, zeroed-rest}
 use borrow.Author.Needs.{needs}
 use borrow.Author.Tests.{not-true, not-false}
-use Rattle.leaves.proofs.zero_sum.Statement.{statement}
-use Rattle.leaves.proofs.zero_sum.Tie as tie
+use Rattle.runs.proofs.zero_sum.Statement.{statement}
+use Rattle.runs.proofs.zero_sum.Tie as tie
 
 abbrev Inv-loop : tie.InvT-loop
 Inv-loop array starts u i₀ i = Zeroed array starts u i

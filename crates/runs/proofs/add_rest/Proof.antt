@@ -1,12 +1,12 @@
--- `leaves::add_rest` meets its contract. Assumes nothing.
+-- `runs::add_rest` meets its contract. Assumes nothing.
 use mathlib.Core.Path.{_≡_, _∙_, refl, sym}
 use native.Mathlib.Omega.{arith}
 use lib.ListN.{length}
 use Rattle.leaves.proofs.Runs.{front-zeros, part-length}
-use Rattle.leaves.proofs.Writes.{block-added}
+use Rattle.runs.proofs.Writes.{block-added}
 use borrow.Author.Needs.{needs}
-use Rattle.leaves.proofs.add_rest.Statement.{statement}
-use Rattle.leaves.proofs.add_rest.Tie as tie
+use Rattle.runs.proofs.add_rest.Statement.{statement}
+use Rattle.runs.proofs.add_rest.Tie as tie
 
 add-end : tie.Need-add-end
 add-end c = search needs

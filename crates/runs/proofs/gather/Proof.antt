@@ -1,11 +1,11 @@
--- `leaves::gather` meets its contract: after each source, the sum of the sources up to there. Assumes nothing.
+-- `runs::gather` meets its contract: after each source, the sum of the sources up to there. Assumes nothing.
 use Prim.Native.Nat.{_-_}
 use native.Mathlib.Omega.{arith}
 use lib.ListN.{length}
-use Rattle.leaves.proofs.Sums.{Gathered, gathered-none, gathered-in, gathered-part, gathered-more, gathered-all}
+use Rattle.runs.proofs.Gathered.{Gathered, gathered-none, gathered-in, gathered-part, gathered-more, gathered-all}
 use borrow.Author.Needs.{needs}
-use Rattle.leaves.proofs.gather.Statement.{statement}
-use Rattle.leaves.proofs.gather.Tie as tie
+use Rattle.runs.proofs.gather.Statement.{statement}
+use Rattle.runs.proofs.gather.Tie as tie
 
 abbrev Inv-loop : tie.InvT-loop
 Inv-loop room₀ array starts i n t₀ room t = Gathered room₀ array starts i room t

@@ -1,10 +1,10 @@
--- `leaves::zero_rest` meets its contract. Assumes nothing.
+-- `runs::zero_rest` meets its contract. Assumes nothing.
 use mathlib.Core.Path.{sym}
 use Rattle.leaves.proofs.Runs.{front-zeros, at-front-zeros}
-use Rattle.leaves.proofs.Sums.{inside-front, zero-gathered}
+use Rattle.runs.proofs.Gathered.{inside-front, zero-gathered}
 use borrow.Author.Needs.{needs}
-use Rattle.leaves.proofs.zero_rest.Statement.{statement}
-use Rattle.leaves.proofs.zero_rest.Tie as tie
+use Rattle.runs.proofs.zero_rest.Statement.{statement}
+use Rattle.runs.proofs.zero_rest.Tie as tie
 
 array-borrow-prefix-room : tie.Need-array-borrow-prefix-room
 array-borrow-prefix-room c = search needs
