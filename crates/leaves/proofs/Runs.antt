@@ -1,6 +1,6 @@
 -- Laws of runs: what each byte is, and the algebra of adding bytes at positions. Assumes nothing.
 use Prim.Native.Nat.{ℕ, zero, suc, _+_, _-_, _≤_, _<_, min}
-use mathlib.Core.Path.{_≡_, refl, sym, _∙_, ap, ap₂, subst}
+use mathlib.Core.Path.{_≡_, refl, sym, _∙_, ap, ap₂}
 use mathlib.Core.List.{List, [], _∷_, _++_, map}
 use mathlib.Core.Logic.{_⊎_, inl, inr, ⊎-elim}
 use native.Mathlib.Nat.{zero-add, add-assoc, suc-add, add-sub-cancel-left}
@@ -233,6 +233,9 @@ addAt-comm a p e q f =
 -- the run to which e was added
 pub run-addAt : (a : List ℕ) (p : ℕ) (e : List ℕ) → p + length e ≤ length a → run (addAt a p e) p (length e) ≡ xors (run a p (length e)) e
 run-addAt a p e h = same-bytes (bytes-run (addAt a p e) p (length e) (rw (length-addAt a p e) h)) (bytes-xors (bytes-run a p (length e) h) e) (λ (i : ℕ) (l : i < length e). addAt-in a p e i (omega arith))
+
+pub apart-sym : {p m q n : ℕ} → Apart p m q n → Apart q n p m
+apart-sym h = record { apart = ⊎-elim inr inl (h .apart) }
 
 -- a run apart from it
 pub run-apart : (a : List ℕ) (p : ℕ) (e : List ℕ) (q n : ℕ) → Apart p (length e) q n → run (addAt a p e) q n ≡ run a q n

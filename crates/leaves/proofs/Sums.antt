@@ -1,21 +1,17 @@
 -- The XOR of several runs at one offset. Assumes nothing.
-use Prim.Native.Nat.{ℕ, zero, suc, _+_, _-_, _≤_, _<_}
-use mathlib.Core.Path.{_≡_, refl, sym, _∙_, ap, ap₂, subst}
-use mathlib.Core.Bool.{Bool, true, false, _&&_}
+use Prim.Native.Nat.{ℕ, zero, suc, _+_, _≤_, _<_}
+use mathlib.Core.Path.{_≡_, refl, sym, _∙_, ap, ap₂}
 use mathlib.Core.List.{List, [], _∷_, _++_}
 use mathlib.Core.Logic.{_⊎_, inl, inr, ⊎-elim}
-use native.Mathlib.Nat.{le-refl, add-assoc, add-sub-cancel-left}
 use native.Mathlib.Numerals.{add-one}
 use native.Mathlib.Omega.{arith}
 use lib.Bits.{bitXor, xor-zero-r}
-use lib.ListN.{getD, length, take, replicate}
-use lib.Seq.{take-suc, take-all}
-use borrow.Rule.Slice.PartMut.{midOf}
+use lib.ListN.{getD, length, take}
+use lib.Seq.{take-suc}
 use Rattle.counting.proofs.Lists.{listOf-length, listOf-at}
-use Rattle.leaves.specs.Bytes.{xors, run, addAt, laid, sumAt, sums, zeroBelow, allZero, zeroSum, zeroSumFrom, Apart, Inside, Spread}
-use Rattle.leaves.proofs.Runs.{Bytes, same-bytes, bytes-of, bytes-xors, front-zeros, part-length, length-xors, at-xors, at-run, length-addAt, at-addAt, addAt-out, laid-shift}
+use Rattle.leaves.specs.Bytes.{addAt, laid, sumAt, sums, Apart, Inside, Spread}
+use Rattle.leaves.proofs.Runs.{Bytes, length-addAt, at-addAt, addAt-out, laid-shift}
 use Rattle.leaves.proofs.Xor.{xor-assoc, xor-swap, xor-twice}
-use Rattle.leaves.proofs.Zeros.{zero-same, zero-none, zero-add, zero-fails}
 
 pub sum-append : (a ps qs : List ℕ) (i : ℕ) → sumAt a (ps ++ qs) i ≡ bitXor (sumAt a ps i) (sumAt a qs i)
 unfolding sumAt

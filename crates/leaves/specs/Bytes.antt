@@ -1,6 +1,6 @@
 -- XOR on runs of bytes inside one list: the arithmetic of both parities (000, 3.1: "P = B1 ⊕ B2 ⊕ .. ⊕ Bk"). Nothing here
 -- knows of disks. Assumes nothing.
-use Prim.Native.Nat.{ℕ, zero, suc, _+_, _≤_, _<_}
+use Prim.Native.Nat.{ℕ, _+_, _≤_, _<_}
 use mathlib.Core.Path.{_≡_}
 use mathlib.Core.Bool.{Bool, not}
 use mathlib.Core.List.{List, [], _∷_, _++_}

@@ -1,15 +1,18 @@
 -- A write of bytes as the difference to what was there, added at several places. Assumes nothing.
 use Prim.Native.Nat.{ℕ, zero, suc, _+_, _-_, _≤_, _<_}
-use mathlib.Core.Path.{_≡_, refl, sym, _∙_, ap, ap₂}
+use mathlib.Core.Path.{_≡_, refl, sym, _∙_, ap, ap₂, subst}
 use mathlib.Core.List.{List, [], _∷_, _++_}
 use mathlib.Core.Logic.{⊎-elim, inl, inr}
 use native.Mathlib.Omega.{arith}
 use native.Mathlib.Nat.{add-sub-cancel-left, le-refl}
-use lib.ListN.{getD, length, take, drop}
+use lib.ListN.{getD, length, take}
 use lib.Seq.{length-take-le, take-add, take-all}
 use borrow.Rule.Slice.PartMut.{midOf, mid-len}
 use Rattle.leaves.specs.Bytes.{xors, run, addAt, addAll, differenceAt, Apart, Four}
-use Rattle.leaves.proofs.Runs.{part-length, length-xors, length-run, run-run, run-xors, further, addAll-nil, addAll-append, length-addAll, run-all-apart}
+use Rattle.leaves.proofs.Runs.{apart-sym, at-zeros, xors-self, xors-cancel, run-addAt, addAll-zero, part-length, length-xors, length-run, run-run, run-xors, further, addAll-nil, addAll-append, length-addAll, run-all-apart}
+
+pub length-difference : (a : List ℕ) (p : ℕ) (new : List ℕ) → p + length new ≤ length a → length (differenceAt a p new) ≡ length new
+length-difference a p new h = length-xors (run a p (length new)) new ∙ length-run a p (length new) h
 
 -- one block: the difference to the part lent from p on, added at the places
 pub block-added :
@@ -37,13 +40,17 @@ four-part m p q r s n i k f h = record {
   from-s = apart-part p n s i k h (f .from-s);
 }
 
+-- the first lies apart from each of the others
+pub four-others : (m p q r s n : ℕ) → Four m p q r s n → (t : ℕ) → t < 3 → Apart p n (getD (q ∷ r ∷ s ∷ []) t 0) n
+four-others m p q r s n f zero l = f .from-q
+four-others m p q r s n f (suc zero) l = f .from-r
+four-others m p q r s n f (suc (suc zero)) l = f .from-s
+four-others m p q r s n f (suc (suc (suc t))) l = absurd (omega arith)
+
 -- and the first i bytes of each lie apart from the next k of the first
 four-before : (m p q r s n i k : ℕ) → Four m p q r s n → i + k ≤ n → (t : ℕ) → t < 4 → Apart (getD (p ∷ q ∷ r ∷ s ∷ []) t 0) i (p + i) k
 four-before m p q r s n i k f h zero l = record { apart = inl (omega arith) }
-four-before m p q r s n i k f h (suc zero) l = apart-before p n q i k h (f .from-q)
-four-before m p q r s n i k f h (suc (suc zero)) l = apart-before p n r i k h (f .from-r)
-four-before m p q r s n i k f h (suc (suc (suc zero))) l = apart-before p n s i k h (f .from-s)
-four-before m p q r s n i k f h (suc (suc (suc (suc t)))) l = absurd (omega arith)
+four-before m p q r s n i k f h (suc t) l = apart-before p n (getD (q ∷ r ∷ s ∷ []) t 0) i k h (four-others m p q r s n f t (omega arith))
 
 -- at i: the first i bytes of the difference are added
 pub record Wrote (a₀ : List ℕ) (p q r s : ℕ) (new a : List ℕ) (i : ℕ) : Type 0 where
@@ -60,7 +67,7 @@ module _ {a₀ : List ℕ} {p q r s : ℕ} {new a : List ℕ} {i : ℕ} (w : Wro
   d = differenceAt a₀ p new
 
   length-d : length d ≡ length new
-  length-d = length-xors (run a₀ p (length new)) new ∙ length-run a₀ p (length new) (w .fits .at-p)
+  length-d = length-difference a₀ p new (w .fits .at-p)
 
   length-done : length (take i d) ≡ i
   length-done = length-take-le i d (rw length-d (w .most))
@@ -118,3 +125,33 @@ module _ {a₀ : List ℕ} {p q r s : ℕ} {new a : List ℕ} {i : ℕ} (w : Wro
       (b : List ℕ) → b ≡ addAll a ((p + i) ∷ (q + i) ∷ (r + i) ∷ (s + i) ∷ []) (differenceAt a (p + i) (midOf i (length new - i) new))
       → b ≡ addAll a₀ (p ∷ q ∷ r ∷ s ∷ []) d
   wrote-rest b e = wrote-more (length new) b (w .most) (le-refl (length new)) e .is ∙ ap (addAll a₀ (p ∷ q ∷ r ∷ s ∷ [])) (take-all (length new) d (rw length-d (le-refl (length new))))
+
+-- ---- what a write does
+-- a run apart from all places stays
+pub write-apart :
+    (a ps : List ℕ) (p : ℕ) (new : List ℕ) (o n : ℕ) → p + length new ≤ length a → ((t : ℕ) → t < length ps → Apart (getD ps t 0) (length new) o n)
+    → run (addAll a ps (differenceAt a p new)) o n ≡ run a o n
+write-apart a ps p new o n f h = run-all-apart a ps (differenceAt a p new) o n (rw (length-difference a p new f) h)
+
+-- the bytes at p are the new ones, where the other places lie apart from it
+pub write-there :
+    (a : List ℕ) (p : ℕ) (ps new : List ℕ) → p + length new ≤ length a → ((t : ℕ) → t < length ps → Apart (getD ps t 0) (length new) p (length new))
+    → run (addAll a (p ∷ ps) (differenceAt a p new)) p (length new) ≡ new
+unfolding addAll
+write-there a p ps new f h =
+    let d : List ℕ = differenceAt a p new in
+    let e : length d ≡ length new = length-difference a p new f in
+    run-all-apart (addAt a p d) ps d p (length new) (rw e h)
+    ∙ subst (λ (n : ℕ). run (addAt a p d) p n ≡ xors (run a p n) d) e (run-addAt a p d (rw e f))
+    ∙ xors-cancel (run a p (length new)) new (length-run a p (length new) f)
+
+-- writing what is there changes nothing
+pub write-same : (a ps : List ℕ) (p n : ℕ) → p + n ≤ length a → addAll a ps (differenceAt a p (run a p n)) ≡ a
+write-same a ps p n h = addAll-zero a ps (differenceAt a p (run a p n)) (rw (length-run a p n h, xors-self (run a p n)) (at-zeros (length (run a p n))))
+
+-- the four places of one write
+pub four-there :
+    (a : List ℕ) (p q r s : ℕ) (new : List ℕ) → Four (length a) p q r s (length new)
+    → run (addAll a (p ∷ q ∷ r ∷ s ∷ []) (differenceAt a p new)) p (length new) ≡ new
+four-there a p q r s new f =
+    write-there a p (q ∷ r ∷ s ∷ []) new (f .at-p) (λ (t : ℕ) (l : t < 3). apart-sym (four-others (length a) p q r s (length new) f t l))

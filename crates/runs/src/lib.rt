@@ -5,7 +5,15 @@ ghost use mathlib.Core.List.{[], _∷_};
 ghost use Prim.Native.Nat.{_+_, _≤_, _<_};
 ghost use lib.ListN.{length};
 ghost use Rattle.leaves.specs.Bytes.{
-    xors, addAt, addAll, differenceAt, sums, zeroSum, zeroSumFrom, Inside, Four,
+  xors,
+  addAt,
+  addAll,
+  differenceAt,
+  sums,
+  zeroSum,
+  zeroSumFrom,
+  Inside,
+  Four,
 };
 
 // XORs e into the array from p on. Every store of a write goes through here, on a part that starts at its offset.
