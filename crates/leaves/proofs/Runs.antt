@@ -20,7 +20,8 @@ pub record Bytes (x : List ℕ) (n : ℕ) (f : ℕ → ℕ) : Type 0 where
 
 pub same-bytes : {x y : List ℕ} {n : ℕ} {f h : ℕ → ℕ} → Bytes x n f → Bytes y n h → ((i : ℕ) → i < n → f i ≡ h i) → x ≡ y
 same-bytes {x} {y} {n} bx by e =
-    ext-getD 0 x y (bx .long ∙ sym (by .long)) (λ (i : ℕ) (l : i < length x). let m : i < n = omega (arith, bx .long) in bx .at i m ∙ e i m ∙ sym (by .at i m))
+    ext-getD 0 x y (bx .long ∙ sym (by .long))
+    (λ (i : ℕ) (l : i < length x). let m : i < n = omega (arith, bx .long) in bx .at i m ∙ e i m ∙ sym (by .at i m))
 
 pub bytes-of : (x : List ℕ) → Bytes x (length x) (λ (i : ℕ). getD x i 0)
 bytes-of x = record { long = refl; at = λ i l. refl }
@@ -72,7 +73,8 @@ at-xors-all (a ∷ x) [] i h = sym (xor-zero-r (getD (a ∷ x) i 0))
 at-xors-all (a ∷ x) (b ∷ y) zero h = refl
 at-xors-all (a ∷ x) (b ∷ y) (suc i) h = at-xors-all x y i (omega arith)
 
-pub bytes-xors : {x : List ℕ} {n : ℕ} {f : ℕ → ℕ} → Bytes x n f → (y : List ℕ) → Bytes (xors x y) n (λ (i : ℕ). bitXor (f i) (getD y i 0))
+pub bytes-xors :
+    {x : List ℕ} {n : ℕ} {f : ℕ → ℕ} → Bytes x n f → (y : List ℕ) → Bytes (xors x y) n (λ (i : ℕ). bitXor (f i) (getD y i 0))
 bytes-xors {x} {n} {f} b y = record {
   long = length-xors x y ∙ b .long;
   at = λ (i : ℕ) (l : i < n). at-xors x y i (omega (arith, b .long)) ∙ ap (λ (z : ℕ). bitXor z (getD y i 0)) (b .at i l);
@@ -89,7 +91,8 @@ pub xors-self : (x : List ℕ) → xors x x ≡ replicate (length x) 0
 xors-self x = same-bytes (bytes-xors (bytes-of x) x) (bytes-zeros (length x)) (λ i l. xor-self (getD x i 0))
 
 pub xors-comm : (x y : List ℕ) → length x ≡ length y → xors x y ≡ xors y x
-xors-comm x y e = same-bytes (bytes-xors (bytes-of x) y) (rw (← e) at (bytes-xors (bytes-of y) x)) (λ i l. xor-comm (getD x i 0) (getD y i 0))
+xors-comm x y e =
+    same-bytes (bytes-xors (bytes-of x) y) (rw (← e) at (bytes-xors (bytes-of y) x)) (λ i l. xor-comm (getD x i 0) (getD y i 0))
 
 pub xors-assoc : (x y z : List ℕ) → length z ≤ length y → xors (xors x y) z ≡ xors x (xors y z)
 xors-assoc x y z e =
@@ -112,7 +115,10 @@ unfolding run
 at-run a p n i l = getD-take n (drop p a) i 0 l ∙ getD-drop p a i 0
 
 bytes-run-any : (a : List ℕ) (p n : ℕ) → Bytes (run a p n) (min n (length a - p)) (λ (i : ℕ). getD a (p + i) 0)
-bytes-run-any a p n = record { long = length-run-any a p n; at = λ (i : ℕ) (l : i < min n (length a - p)). at-run a p n i (omega arith) }
+bytes-run-any a p n = record {
+  long = length-run-any a p n;
+  at = λ (i : ℕ) (l : i < min n (length a - p)). at-run a p n i (omega arith);
+}
 
 pub length-run : (a : List ℕ) (p n : ℕ) → p + n ≤ length a → length (run a p n) ≡ n
 length-run a p n h = omega (arith, length-run-any a p n)
@@ -175,7 +181,8 @@ pub laid-append : (p : ℕ) (e f : List ℕ) (i : ℕ) → laid p (e ++ f) i ≡
 unfolding laid
 laid-append zero e f i = laid-tail e f i ∙ ap (λ (x : ℕ). bitXor (getD e i 0) (laid x f i)) (sym (zero-add (length e)))
 laid-append (suc p) e f zero = ap (λ (x : ℕ). laid x f 0) (sym (suc-add p (length e)))
-laid-append (suc p) e f (suc i) = laid-append p e f i ∙ ap (λ (x : ℕ). bitXor (laid p e i) (laid x f (suc i))) (sym (suc-add p (length e)))
+laid-append (suc p) e f (suc i) =
+    laid-append p e f i ∙ ap (λ (x : ℕ). bitXor (laid p e i) (laid x f (suc i))) (sym (suc-add p (length e)))
 
 -- what is zero everywhere stays so
 pub laid-zero : (p : ℕ) (e : List ℕ) → ((i : ℕ) → getD e i 0 ≡ 0) → (i : ℕ) → laid p e i ≡ 0
@@ -187,23 +194,30 @@ laid-zero (suc p) e z (suc i) = laid-zero p e z i
 -- ---- adding at a position
 pub length-addAt : (a : List ℕ) (p : ℕ) (e : List ℕ) → length (addAt a p e) ≡ length a
 unfolding addAt
-length-addAt a p e = length-append (take p a) (xors (drop p a) e) ∙ rw (length-xors (drop p a) e) (sym (length-append (take p a) (drop p a)) ∙ ap length (take-append-drop p a))
+length-addAt a p e =
+    length-append (take p a) (xors (drop p a) e)
+    ∙ rw (length-xors (drop p a) e) (sym (length-append (take p a) (drop p a)) ∙ ap length (take-append-drop p a))
 
-pub at-addAt : (a : List ℕ) (p : ℕ) (e : List ℕ) (i : ℕ) → i < length a → getD (addAt a p e) i 0 ≡ bitXor (getD a i 0) (laid p e i)
+pub at-addAt :
+    (a : List ℕ) (p : ℕ) (e : List ℕ) (i : ℕ) → i < length a → getD (addAt a p e) i 0 ≡ bitXor (getD a i 0) (laid p e i)
 unfolding addAt laid
 at-addAt a zero e i h = at-xors a e i h
 at-addAt [] (suc p) e i h = absurd (omega arith)
 at-addAt (x ∷ a) (suc p) e zero h = sym (xor-zero-r x)
 at-addAt (x ∷ a) (suc p) e (suc i) h = at-addAt a p e i (omega arith)
 
-pub bytes-addAt : {a : List ℕ} {n : ℕ} {f : ℕ → ℕ} → Bytes a n f → (p : ℕ) (e : List ℕ) → Bytes (addAt a p e) n (λ (i : ℕ). bitXor (f i) (laid p e i))
+pub bytes-addAt :
+    {a : List ℕ} {n : ℕ} {f : ℕ → ℕ} → Bytes a n f → (p : ℕ) (e : List ℕ)
+    → Bytes (addAt a p e) n (λ (i : ℕ). bitXor (f i) (laid p e i))
 bytes-addAt {a} {n} {f} b p e = record {
   long = length-addAt a p e ∙ b .long;
   at = λ (i : ℕ) (l : i < n). at-addAt a p e i (omega (arith, b .long)) ∙ ap (λ (x : ℕ). bitXor x (laid p e i)) (b .at i l);
 }
 
 -- inside e's run the XOR
-pub addAt-in : (a : List ℕ) (p : ℕ) (e : List ℕ) (j : ℕ) → p + j < length a → getD (addAt a p e) (p + j) 0 ≡ bitXor (getD a (p + j) 0) (getD e j 0)
+pub addAt-in :
+    (a : List ℕ) (p : ℕ) (e : List ℕ) (j : ℕ) → p + j < length a
+    → getD (addAt a p e) (p + j) 0 ≡ bitXor (getD a (p + j) 0) (getD e j 0)
 addAt-in a p e j h = at-addAt a p e (p + j) h ∙ rw (laid-from p e j)
 
 -- and elsewhere what was there
@@ -212,13 +226,16 @@ addAt-out a p e i h = go (decLt i (length a))
   where
     go : Dec (i < length a) → getD (addAt a p e) i 0 ≡ getD a i 0
     go (yes l) = at-addAt a p e i l ∙ rw (laid-out p e i h) (xor-zero-r (getD a i 0))
-    go (no n) = List·getD-eq-default (addAt a p e) 0 (rw (length-addAt a p e) (omega arith)) ∙ sym (List·getD-eq-default a 0 (omega arith))
+    go (no n) =
+        List·getD-eq-default (addAt a p e) 0 (rw (length-addAt a p e) (omega arith))
+        ∙ sym (List·getD-eq-default a 0 (omega arith))
 
 pub addAt-nil : (a : List ℕ) (p : ℕ) → addAt a p [] ≡ a
 addAt-nil a p = same-bytes (bytes-addAt (bytes-of a) p []) (bytes-of a) (λ i l. rw (laid-nil p i) (xor-zero-r (getD a i 0)))
 
 pub addAt-zero : (a : List ℕ) (p : ℕ) (e : List ℕ) → ((i : ℕ) → getD e i 0 ≡ 0) → addAt a p e ≡ a
-addAt-zero a p e z = same-bytes (bytes-addAt (bytes-of a) p e) (bytes-of a) (λ i l. rw (laid-zero p e z i) (xor-zero-r (getD a i 0)))
+addAt-zero a p e z =
+    same-bytes (bytes-addAt (bytes-of a) p e) (bytes-of a) (λ i l. rw (laid-zero p e z i) (xor-zero-r (getD a i 0)))
 
 pub addAt-append : (a : List ℕ) (p : ℕ) (e f : List ℕ) → addAt a p (e ++ f) ≡ addAt (addAt a p e) (p + length e) f
 addAt-append a p e f =
@@ -231,8 +248,11 @@ addAt-comm a p e q f =
     (λ i l. xor-swap (getD a i 0) (laid p e i) (laid q f i))
 
 -- the run to which e was added
-pub run-addAt : (a : List ℕ) (p : ℕ) (e : List ℕ) → p + length e ≤ length a → run (addAt a p e) p (length e) ≡ xors (run a p (length e)) e
-run-addAt a p e h = same-bytes (bytes-run (addAt a p e) p (length e) (rw (length-addAt a p e) h)) (bytes-xors (bytes-run a p (length e) h) e) (λ (i : ℕ) (l : i < length e). addAt-in a p e i (omega arith))
+pub run-addAt :
+    (a : List ℕ) (p : ℕ) (e : List ℕ) → p + length e ≤ length a → run (addAt a p e) p (length e) ≡ xors (run a p (length e)) e
+run-addAt a p e h =
+    same-bytes (bytes-run (addAt a p e) p (length e) (rw (length-addAt a p e) h)) (bytes-xors (bytes-run a p (length e) h) e)
+    (λ (i : ℕ) (l : i < length e). addAt-in a p e i (omega arith))
 
 pub apart-sym : {p m q n : ℕ} → Apart p m q n → Apart q n p m
 apart-sym h = record { apart = ⊎-elim inr inl (h .apart) }
@@ -241,7 +261,8 @@ apart-sym h = record { apart = ⊎-elim inr inl (h .apart) }
 pub run-apart : (a : List ℕ) (p : ℕ) (e : List ℕ) (q n : ℕ) → Apart p (length e) q n → run (addAt a p e) q n ≡ run a q n
 run-apart a p e q n h =
     same-bytes (rw (length-addAt a p e) at (bytes-run-any (addAt a p e) q n)) (bytes-run-any a q n)
-    (λ (i : ℕ) (l : i < min n (length a - q)). addAt-out a p e (q + i) (⊎-elim (λ (k : p + length e ≤ q). inr (omega arith)) (λ (k : q + n ≤ p). inl (omega arith)) (h .apart)))
+    (λ (i : ℕ) (l : i < min n (length a - q)).
+    addAt-out a p e (q + i) (⊎-elim (λ (k : p + length e ≤ q). inr (omega arith)) (λ (k : q + n ≤ p). inl (omega arith)) (h .apart)))
 
 -- a part lent from p on comes back with e added to it
 xors-front : (x e : List ℕ) (k : ℕ) → length e ≤ k → xors (take k x) e ++ drop k x ≡ xors x e
@@ -253,7 +274,9 @@ xors-front (a ∷ x) [] (suc k) h = ap (λ (l : List ℕ). a ∷ l) (take-append
 xors-front (a ∷ x) (b ∷ e) zero h = absurd (omega arith)
 xors-front (a ∷ x) (b ∷ e) (suc k) h = ap (λ (l : List ℕ). bitXor a b ∷ l) (xors-front x e k (omega arith))
 
-pub put-xors : (a : List ℕ) (p : ℕ) (e y : List ℕ) → y ≡ xors (midOf p (p + length e - p) a) e → putMid p (p + length e - p) a y ≡ addAt a p e
+pub put-xors :
+    (a : List ℕ) (p : ℕ) (e y : List ℕ) → y ≡ xors (midOf p (p + length e - p) a) e
+    → putMid p (p + length e - p) a y ≡ addAt a p e
 unfolding addAt
 put-xors a p e y g =
     ap (λ (l : List ℕ). take p a ++ (l ++ drop (p + length e - p) (drop p a))) g
@@ -275,7 +298,8 @@ addAll-addAt a (p ∷ ps) e q f = ap (λ (x : List ℕ). addAll x ps e) (addAt-c
 pub addAll-four :
     (a b c d x : List ℕ) (p q r s : ℕ) (e : List ℕ) → b ≡ addAt a p e → c ≡ addAt b q e → d ≡ addAt c r e → x ≡ addAt d s e → x ≡ addAll a (p ∷ q ∷ r ∷ s ∷ []) e
 unfolding addAll
-addAll-four a b c d x p q r s e hb hc hd hx = hx ∙ ap (λ (l : List ℕ). addAt l s e) (hd ∙ ap (λ (l : List ℕ). addAt l r e) (hc ∙ ap (λ (l : List ℕ). addAt l q e) hb))
+addAll-four a b c d x p q r s e hb hc hd hx =
+    hx ∙ ap (λ (l : List ℕ). addAt l s e) (hd ∙ ap (λ (l : List ℕ). addAt l r e) (hc ∙ ap (λ (l : List ℕ). addAt l q e) hb))
 
 pub addAll-zero : (a ps e : List ℕ) → ((i : ℕ) → getD e i 0 ≡ 0) → addAll a ps e ≡ a
 unfolding addAll
@@ -299,7 +323,9 @@ addAll-append a (p ∷ ps) e f =
     ∙ ap (λ (x : List ℕ). addAll x (further (length e) ps) f) (addAll-addAt (addAt a p e) ps e (p + length e) f)
 
 -- a run apart from all of them
-pub run-all-apart : (a ps e : List ℕ) (q n : ℕ) → ((t : ℕ) → t < length ps → Apart (getD ps t 0) (length e) q n) → run (addAll a ps e) q n ≡ run a q n
+pub run-all-apart :
+    (a ps e : List ℕ) (q n : ℕ) → ((t : ℕ) → t < length ps → Apart (getD ps t 0) (length e) q n)
+    → run (addAll a ps e) q n ≡ run a q n
 unfolding addAll
 run-all-apart a [] e q n h = refl
 run-all-apart a (p ∷ ps) e q n h =

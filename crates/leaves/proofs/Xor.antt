@@ -22,7 +22,9 @@ differ-assoc (suc zero) (suc zero) (suc (suc z)) p q r = absurd (omega arith)
 differ-assoc (suc zero) (suc (suc y)) z p q r = absurd (omega arith)
 differ-assoc (suc (suc x)) y z p q r = absurd (omega arith)
 
-from-halves : (a b c : ℕ) → bitXor (bitXor (a / 2) (b / 2)) (c / 2) ≡ bitXor (a / 2) (bitXor (b / 2) (c / 2)) → bitXor (bitXor a b) c ≡ bitXor a (bitXor b c)
+from-halves :
+    (a b c : ℕ) → bitXor (bitXor (a / 2) (b / 2)) (c / 2) ≡ bitXor (a / 2) (bitXor (b / 2) (c / 2))
+    → bitXor (bitXor a b) c ≡ bitXor a (bitXor b c)
 from-halves a b c h =
     xor-step (bitXor a b) c
     ∙ ap₂ (λ (x y : ℕ). bitXor x (c / 2) * 2 + differ y (c % 2)) (xor-shr a b 1) (xor-mod a b 1)
@@ -31,7 +33,9 @@ from-halves a b c h =
     ∙ sym (xor-step a (bitXor b c))
 
 pub xor-assoc : (a b c : ℕ) → bitXor (bitXor a b) c ≡ bitXor a (bitXor b c)
-xor-assoc = bin-ind (λ (n : ℕ). (b c : ℕ) → bitXor (bitXor n b) c ≡ bitXor n (bitXor b c)) (λ b c. refl) (λ n ih b c. from-halves n b c (ih (b / 2) (c / 2)))
+xor-assoc =
+    bin-ind (λ (n : ℕ). (b c : ℕ) → bitXor (bitXor n b) c ≡ bitXor n (bitXor b c)) (λ b c. refl)
+    (λ n ih b c. from-halves n b c (ih (b / 2) (c / 2)))
 
 pub xor-left-comm : (a b c : ℕ) → bitXor a (bitXor b c) ≡ bitXor b (bitXor a c)
 xor-left-comm a b c = sym (xor-assoc a b c) ∙ ap (λ (x : ℕ). bitXor x c) (xor-comm a b) ∙ xor-assoc b a c

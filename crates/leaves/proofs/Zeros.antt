@@ -19,7 +19,9 @@ zero-holds f n h i l = eqb-true (f i) 0 (not-false (eqb (f i) 0) (any-none (λ (
 
 pub zero-is : (f : ℕ → ℕ) (n : ℕ) → ((i : ℕ) → i < n → f i ≡ 0) → zeroBelow f n ≡ true
 unfolding zeroBelow
-zero-is f n h = not-is-true _ (none-any (λ (j : ℕ). not (eqb (f j) 0)) n (λ (i : ℕ) (l : i < n). not-is-false _ (eq-eqb (f i) 0 (h i l))))
+zero-is f n h =
+    not-is-true _
+    (none-any (λ (j : ℕ). not (eqb (f j) 0)) n (λ (i : ℕ) (l : i < n). not-is-false _ (eq-eqb (f i) 0 (h i l))))
 
 pub zero-not : (f : ℕ → ℕ) (n i : ℕ) → i < n → (f i ≡ 0 → ⊥) → zeroBelow f n ≡ false
 unfolding zeroBelow
@@ -41,15 +43,22 @@ pub zero-none : (f : ℕ → ℕ) → zeroBelow f 0 ≡ true
 zero-none f = zero-is f 0 (λ (i : ℕ) (l : i < 0). absurd (omega arith))
 
 -- what both parts hold holds of the whole
-zero-both : (f : ℕ → ℕ) (m n : ℕ) → zeroBelow f m ≡ true → zeroBelow (λ (i : ℕ). f (m + i)) n ≡ true → (i : ℕ) → i < m + n → Dec (i < m) → f i ≡ 0
+zero-both :
+    (f : ℕ → ℕ) (m n : ℕ) → zeroBelow f m ≡ true → zeroBelow (λ (i : ℕ). f (m + i)) n ≡ true → (i : ℕ) → i < m + n → Dec (i < m)
+    → f i ≡ 0
 zero-both f m n p q i l (yes k) = zero-holds f m p i k
-zero-both f m n p q i l (no k) = let e : i ≡ m + (i - m) = omega arith in ap f e ∙ zero-holds (λ (j : ℕ). f (m + j)) n q (i - m) (omega arith)
+zero-both f m n p q i l (no k) =
+    let e : i ≡ m + (i - m) = omega arith in
+    ap f e ∙ zero-holds (λ (j : ℕ). f (m + j)) n q (i - m) (omega arith)
 
 pub zero-add : (f : ℕ → ℕ) (m n : ℕ) → zeroBelow f (m + n) ≡ (zeroBelow f m && zeroBelow (λ (i : ℕ). f (m + i)) n)
 zero-add f m n =
     same-truth (zeroBelow f (m + n)) (zeroBelow f m && zeroBelow (λ (i : ℕ). f (m + i)) n)
-    (λ t. both-and _ _ (zero-is f m (λ (i : ℕ) (l : i < m). zero-holds f (m + n) t i (omega arith))) (zero-is _ n (λ (i : ℕ) (l : i < n). zero-holds f (m + n) t (m + i) (omega arith))))
-    (λ t. let b : (zeroBelow f m ≡ true) × (zeroBelow (λ (i : ℕ). f (m + i)) n ≡ true) = and-both _ _ t in zero-is f (m + n) (λ (i : ℕ) (l : i < m + n). zero-both f m n (b .0) (b .1) i l (decLt i m)))
+    (λ t. both-and _ _ (zero-is f m (λ (i : ℕ) (l : i < m). zero-holds f (m + n) t i (omega arith)))
+    (zero-is _ n (λ (i : ℕ) (l : i < n). zero-holds f (m + n) t (m + i) (omega arith))))
+    (λ t.
+    let b : (zeroBelow f m ≡ true) × (zeroBelow (λ (i : ℕ). f (m + i)) n ≡ true) = and-both _ _ t in
+    zero-is f (m + n) (λ (i : ℕ) (l : i < m + n). zero-both f m n (b .0) (b .1) i l (decLt i m)))
 
 -- what fails early fails
 pub zero-fails : (f : ℕ → ℕ) (m n : ℕ) → m ≤ n → zeroBelow f m ≡ false → zeroBelow f n ≡ false
@@ -63,7 +72,9 @@ zero-one f =
     (λ t. zero-is f 1 (λ (i : ℕ) (l : i < 1). let e : i ≡ 0 = omega arith in ap f e ∙ eqb-true (f 0) 0 t))
 
 pub zero-more : (f : ℕ → ℕ) (n : ℕ) → zeroBelow f (n + 1) ≡ (zeroBelow f n && eqb (f n) 0)
-zero-more f n = zero-add f n 1 ∙ ap (λ (b : Bool). zeroBelow f n && b) (zero-one (λ (i : ℕ). f (n + i)) ∙ ap (λ (k : ℕ). eqb (f k) 0) (add-zero n))
+zero-more f n =
+    zero-add f n 1
+    ∙ ap (λ (b : Bool). zeroBelow f n && b) (zero-one (λ (i : ℕ). f (n + i)) ∙ ap (λ (k : ℕ). eqb (f k) 0) (add-zero n))
 
 -- ---- a loop that ORs the first n numbers: what holds at i
 pub record Ored (f : ℕ → ℕ) (n x i : ℕ) : Type 0 where
@@ -74,7 +85,10 @@ pub ored-none : (f : ℕ → ℕ) (n : ℕ) → Ored f n 0 0
 ored-none f n = record { most = omega arith; is = sym (zero-none f) }
 
 pub ored-more : {f : ℕ → ℕ} {n x i : ℕ} → Ored f n x i → i < n → Ored f n (bitOr x (f i)) (i + 1)
-ored-more {f} {n} {x} {i} o h = record { most = omega arith; is = or-is-zero x (f i) ∙ ap (λ (b : Bool). b && eqb (f i) 0) (o .is) ∙ sym (zero-more f i) }
+ored-more {f} {n} {x} {i} o h = record {
+  most = omega arith;
+  is = or-is-zero x (f i) ∙ ap (λ (b : Bool). b && eqb (f i) 0) (o .is) ∙ sym (zero-more f i);
+}
 
 pub ored-all : {f : ℕ → ℕ} {n x i : ℕ} → Ored f n x i → n ≤ i → eqb x 0 ≡ zeroBelow f n
 ored-all {f} {n} {x} {i} o h = let e : i ≡ n = omega (arith, o .most) in o .is ∙ ap (zeroBelow f) e

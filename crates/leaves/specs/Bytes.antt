@@ -34,6 +34,10 @@ addAll a (p ∷ ps) e = addAll (addAt a p e) ps e
 abbrev pub differenceAt : List ℕ → ℕ → List ℕ → List ℕ
 differenceAt a p new = xors (run a p (length new)) new
 
+-- a write of new at p: its difference is added there and at the other positions
+abbrev pub written : List ℕ → ℕ → List ℕ → List ℕ → List ℕ
+written a p ps new = addAll a (p ∷ ps) (differenceAt a p new)
+
 -- what addAt XORs into byte i: e laid from p on, and 0 before and after it
 unfoldable pub laid : ℕ → List ℕ → ℕ → ℕ
 laid p e i = getD (replicate p 0 ++ e) i 0
@@ -75,12 +79,16 @@ pub record Inside (m : ℕ) (ps : List ℕ) (u : ℕ) : Type 0 where
 pub record Spread (ps : List ℕ) (u : ℕ) : Type 0 where
   pub spread : (s t : ℕ) → s < length ps → t < length ps → (s ≡ t → ⊥) → Apart (getD ps s 0) u (getD ps t 0) u
 
--- four runs of n bytes lie inside m bytes, and the first lies apart from the other three
-pub record Four (m p q r s n : ℕ) : Type 0 where
+-- four runs of n bytes lie inside m bytes
+pub record FourInside (m p q r s n : ℕ) : Type 0 where
   pub at-p : p + n ≤ m
   pub at-q : q + n ≤ m
   pub at-r : r + n ≤ m
   pub at-s : s + n ≤ m
+
+-- and the first lies apart from the other three
+pub record Four (m p q r s n : ℕ) : Type 0 where
+  pub inside : FourInside m p q r s n
   pub from-q : Apart p n q n
   pub from-r : Apart p n r n
   pub from-s : Apart p n s n

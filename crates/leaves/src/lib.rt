@@ -17,17 +17,19 @@ pub fn xor_into(dst: &mut [u8], src: &[u8])
     }
 }
 
+// Copies src over dst.
 pub fn copy_into(dst: &mut [u8], src: &[u8])
     requires { ⌜ length (now src) ≡ length (now dst) ⌝ }
     ensures { λ _. ⌜ now (dst .exit) ≡ now (src .entry) ⌝ }
 {
-    let mut i: usize = 0;
-    while i < src.len() {
-        dst[i] = src[i];
-        i += 1;
+    let mut at: usize = 0;
+    while at < src.len() {
+        dst[at] = src[at];
+        at += 1;
     }
 }
 
+// Makes every byte zero.
 pub fn clear(dst: &mut [u8])
     ensures { λ _. ⌜ now (dst .exit) ≡ replicate (length (now (dst .entry))) 0 ⌝ }
 {

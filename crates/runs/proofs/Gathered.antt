@@ -36,14 +36,21 @@ module _ {x a ps : List ℕ} {i : ℕ} {y : List ℕ} {t : ℕ} (g : Gathered x 
   pub gathered-in : t < length ps → getD ps t 0 + i + length x ≤ length a
   gathered-in h = omega (arith, g .fits .inside t h)
 
-  pub gathered-part : t < length ps → length (midOf (getD ps t 0 + i) (getD ps t 0 + i + length x - (getD ps t 0 + i)) a) ≤ length y
+  pub gathered-part :
+      t < length ps → length (midOf (getD ps t 0 + i) (getD ps t 0 + i + length x - (getD ps t 0 + i)) a) ≤ length y
   gathered-part h = rw (part-length a (getD ps t 0 + i) (length x) (gathered-in h), g .long) (le-refl (length x))
 
   one-more : t < length ps → (j : ℕ) → j < length x
       → bitXor (bitXor (getD x j 0) (getD (sums a (take t ps) i (length x)) j 0)) (getD (run a (getD ps t 0 + i) (length x)) j 0)
       ≡ bitXor (getD x j 0) (getD (sums a (take (t + 1) ps) i (length x)) j 0)
   one-more h j l =
-      rw (bytes-sums a (take t ps) i (length x) .at j l, bytes-sums a (take (t + 1) ps) i (length x) .at j l, at-run a (getD ps t 0 + i) (length x) j l, sum-more a ps t (i + j) h, add-assoc (getD ps t 0) i j)
+      rw (
+        bytes-sums a (take t ps) i (length x) .at j l,
+        bytes-sums a (take (t + 1) ps) i (length x) .at j l,
+        at-run a (getD ps t 0 + i) (length x) j l,
+        sum-more a ps t (i + j) h,
+        add-assoc (getD ps t 0) i j,
+      )
       (xor-assoc (getD x j 0) (sumAt a (take t ps) (i + j)) (getD a (getD ps t 0 + (i + j)) 0))
 
   pub gathered-more :
@@ -62,11 +69,14 @@ module _ {x a ps : List ℕ} {i : ℕ} {y : List ℕ} {t : ℕ} (g : Gathered x 
   gathered-all h = g .is ∙ ap (λ (l : List ℕ). xors x (sums a l i (length x))) (take-all t ps h)
 
 -- n of k zeros have room for n bytes of each source
-pub inside-front : (m : ℕ) (ps : List ℕ) (i k n : ℕ) → n ≤ k → Inside m ps (i + n) → Inside m ps (i + length {A = ℕ} (take n (replicate k 0)))
+pub inside-front :
+    (m : ℕ) (ps : List ℕ) (i k n : ℕ) → n ≤ k → Inside m ps (i + n) → Inside m ps (i + length {A = ℕ} (take n (replicate k 0)))
 inside-front m ps i k n h f = subst (λ (x : ℕ). Inside m ps (i + x)) (front-zeros k n h) f
 
 -- ---- the zero test of what was gathered into a list of n zeros
-module _ (z y a ps : List ℕ) (i n : ℕ) (long : length z ≡ n) (none : (j : ℕ) → getD z j 0 ≡ 0) (e : y ≡ xors z (sums a ps i (length z))) where
+module _
+    (z y a ps : List ℕ) (i n : ℕ) (long : length z ≡ n) (none : (j : ℕ) → getD z j 0 ≡ 0)
+    (e : y ≡ xors z (sums a ps i (length z))) where
   length-gathered : length y ≡ n
   length-gathered = ap length e ∙ length-xors z _ ∙ long
 
@@ -76,7 +86,9 @@ module _ (z y a ps : List ℕ) (i n : ℕ) (long : length z ≡ n) (none : (j : 
       ∙ ap₂ bitXor (none j) (bytes-sums a ps i (length z) .at j (omega arith))
 
   pub zero-gathered : (b : Bool) → b ≡ allZero y → b ≡ zeroSumFrom a ps i n
-  zero-gathered b h = h ∙ ap (zeroBelow (λ (j : ℕ). getD y j 0)) length-gathered ∙ zero-same (λ (j : ℕ). getD y j 0) (λ (j : ℕ). sumAt a ps (i + j)) n at-gathered
+  zero-gathered b h =
+      h ∙ ap (zeroBelow (λ (j : ℕ). getD y j 0)) length-gathered
+      ∙ zero-same (λ (j : ℕ). getD y j 0) (λ (j : ℕ). sumAt a ps (i + j)) n at-gathered
 
 -- ---- a loop over blocks of offsets: what holds at i
 pub record Zeroed (a ps : List ℕ) (u i : ℕ) : Type 0 where

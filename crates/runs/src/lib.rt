@@ -4,17 +4,7 @@ ghost use mathlib.Core.Path.{_≡_};
 ghost use mathlib.Core.List.{[], _∷_};
 ghost use Prim.Native.Nat.{_+_, _≤_, _<_};
 ghost use lib.ListN.{length};
-ghost use Rattle.leaves.specs.Bytes.{
-  xors,
-  addAt,
-  addAll,
-  differenceAt,
-  sums,
-  zeroSum,
-  zeroSumFrom,
-  Inside,
-  Four,
-};
+ghost use Rattle.leaves.specs.Bytes.{xors, addAt, addAll, written, sums, zeroSum, zeroSumFrom, Inside, FourInside, Four};
 
 // XORs e into the array from p on. Every store of a write goes through here, on a part that starts at its offset.
 pub fn add_run(array: &mut [u8], p: usize, e: &[u8])
@@ -27,7 +17,7 @@ pub fn add_run(array: &mut [u8], p: usize, e: &[u8])
 
 // The same bytes at four places.
 fn add_at_four(array: &mut [u8], p: usize, q: usize, r: usize, s: usize, e: &[u8])
-    requires { ⌜ (p + length (now e) ≤ length (now array)) × (q + length (now e) ≤ length (now array)) × (r + length (now e) ≤ length (now array)) × (s + length (now e) ≤ length (now array)) ⌝ }
+    requires { ⌜ FourInside (length (now array)) p q r s (length (now e)) ⌝ }
     ensures { λ _. ⌜ now (array .exit) ≡ addAll (now (array .entry)) (p ∷ q ∷ r ∷ s ∷ []) (now (e .entry)) ⌝ }
 {
     add_run(array, p, e);
@@ -39,7 +29,7 @@ fn add_at_four(array: &mut [u8], p: usize, q: usize, r: usize, s: usize, e: &[u8
 // One block of a write. Its difference stays in registers, and is whole before the first store.
 fn add_block(array: &mut [u8], p: usize, q: usize, r: usize, s: usize, new: &[u8])
     requires { ⌜ (length (now new) ≡ 64) × Four (length (now array)) p q r s (length (now new)) ⌝ }
-    ensures { λ _. ⌜ now (array .exit) ≡ addAll (now (array .entry)) (p ∷ q ∷ r ∷ s ∷ []) (differenceAt (now (array .entry)) p (now (new .entry))) ⌝ }
+    ensures { λ _. ⌜ now (array .exit) ≡ written (now (array .entry)) p (q ∷ r ∷ s ∷ []) (now (new .entry)) ⌝ }
 {
     let end = p + 64;
     let mut e = [0u8; 64];
@@ -50,7 +40,7 @@ fn add_block(array: &mut [u8], p: usize, q: usize, r: usize, s: usize, new: &[u8
 // What is left of a write after its blocks.
 fn add_rest(array: &mut [u8], p: usize, q: usize, r: usize, s: usize, new: &[u8])
     requires { ⌜ (length (now new) < 64) × Four (length (now array)) p q r s (length (now new)) ⌝ }
-    ensures { λ _. ⌜ now (array .exit) ≡ addAll (now (array .entry)) (p ∷ q ∷ r ∷ s ∷ []) (differenceAt (now (array .entry)) p (now (new .entry))) ⌝ }
+    ensures { λ _. ⌜ now (array .exit) ≡ written (now (array .entry)) p (q ∷ r ∷ s ∷ []) (now (new .entry)) ⌝ }
 {
     let n = new.len();
     let end = p + n;
@@ -60,10 +50,10 @@ fn add_rest(array: &mut [u8], p: usize, q: usize, r: usize, s: usize, new: &[u8]
     add_at_four(array, p, q, r, s, e);
 }
 
-// Writes new at p, and keeps zero what XORed to zero before: the difference to what was there goes to p, q, r and s, block by block.
+// Writes new at p: block by block, its difference to what was there goes to p and alike to q, r and s.
 pub fn add_four(array: &mut [u8], p: usize, q: usize, r: usize, s: usize, new: &[u8])
     requires { ⌜ Four (length (now array)) p q r s (length (now new)) ⌝ }
-    ensures { λ _. ⌜ now (array .exit) ≡ addAll (now (array .entry)) (p ∷ q ∷ r ∷ s ∷ []) (differenceAt (now (array .entry)) p (now (new .entry))) ⌝ }
+    ensures { λ _. ⌜ now (array .exit) ≡ written (now (array .entry)) p (q ∷ r ∷ s ∷ []) (now (new .entry)) ⌝ }
 {
     let mut i: usize = 0;
     while i + 64 <= new.len() {
@@ -77,7 +67,8 @@ pub fn add_four(array: &mut [u8], p: usize, q: usize, r: usize, s: usize, new: &
 // XORs into room, for every source, the bytes that it has from offset i on: one source a turn, so any number of them.
 pub fn gather(room: &mut [u8], array: &[u8], starts: &[usize], i: usize)
     requires { ⌜ Inside (length (now array)) (now starts) (i + length (now room)) ⌝ }
-    ensures { λ _. ⌜ now (room .exit) ≡ xors (now (room .entry)) (sums (now (array .entry)) (now (starts .entry)) i (length (now (room .entry)))) ⌝ }
+    ensures { λ _. ⌜ now (room .exit)
+        ≡ xors (now (room .entry)) (sums (now (array .entry)) (now (starts .entry)) i (length (now (room .entry)))) ⌝ }
 {
     let n = room.len();
     let mut t: usize = 0;

@@ -8,10 +8,10 @@ use Rattle.leaves.proofs.copy_into.Statement.{statement}
 use Rattle.leaves.proofs.copy_into.Tie as tie
 
 abbrev Inv-loop : tie.InvT-loop
-Inv-loop dst₀ src i₀ dst i = Filled dst₀ src dst i
+Inv-loop dst₀ src at₀ dst at = Filled dst₀ src dst at
 
 abbrev μ-loop : tie.MeasureT-loop
-μ-loop dst₀ src i₀ dst i = length src - i
+μ-loop dst₀ src at₀ dst at = length src - at
 
 loop-holds : tie.Need-loop-holds Inv-loop μ-loop
 loop-holds c = filled-none _ _ (c .pre)
@@ -22,8 +22,8 @@ shared-slice-read-dst c = search needs
 slice-write-dst : tie.Need-slice-write-dst Inv-loop μ-loop
 slice-write-dst c = search needs
 
-add-i : tie.Need-add-i Inv-loop μ-loop
-add-i c = search needs
+add-at : tie.Need-add-at Inv-loop μ-loop
+add-at c = search needs
 
 loop-less : tie.Need-loop-less Inv-loop μ-loop
 loop-less c = search needs
@@ -46,7 +46,7 @@ copy-into-spec =
     loop-holds
     shared-slice-read-dst
     slice-write-dst
-    add-i
+    add-at
     loop-less
     loop-again
     same-length

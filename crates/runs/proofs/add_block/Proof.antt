@@ -1,5 +1,5 @@
 -- `runs::add_block` meets its contract. Assumes nothing.
-use Rattle.runs.proofs.Writes.{block-added}
+use Rattle.runs.proofs.Writes.{block-written}
 use borrow.Author.Needs.{needs}
 use Rattle.runs.proofs.add_block.Statement.{statement}
 use Rattle.runs.proofs.add_block.Tie as tie
@@ -32,7 +32,9 @@ same-length : tie.Need-same-length
 same-length c = search needs
 
 returns : tie.Need-returns
-returns c = block-added _ _ _ _ _ _ 64 (c .before .before .before .before .before .before .before .before .before .before .before .before .pre .0) (c .before .before .before .before .before .before .difference .ensures) (c .before .before .add-at-four .ensures)
+returns c =
+    block-written _ _ _ _ _ _ 64 (c .before .before .before .before .before .before .before .before .before .before .before .before .pre .0)
+    (c .before .before .before .before .before .before .difference .ensures) (c .before .before .add-at-four .ensures)
 
 pub add-block-spec : {M : Type 1} → statement M
 add-block-spec =

@@ -1,7 +1,7 @@
 -- `runs::add_four` meets its contract: after each block, what is done is the difference up to there. Assumes nothing.
 use Prim.Native.Nat.{_-_}
 use lib.ListN.{length}
-use Rattle.runs.proofs.Writes.{Wrote, wrote-none, wrote-block-fits, wrote-block, wrote-rest-fits, wrote-rest}
+use Rattle.runs.proofs.Writes.{Wrote, wrote-none, wrote-fits, wrote-more, wrote-rest-fits, wrote-rest}
 use borrow.Author.Needs.{needs}
 use Rattle.runs.proofs.add_four.Statement.{statement}
 use Rattle.runs.proofs.add_four.Tie as tie
@@ -43,13 +43,14 @@ part-add-block-end : tie.Need-part-add-block-end Inv-loop μ-loop
 part-add-block-end c = search needs
 
 add-block-requires : tie.Need-add-block-requires Inv-loop μ-loop
-add-block-requires c κs = wrote-block-fits (c .before .before .before .loop .inv) 64 (c .before .before .loop-test .taken)
+add-block-requires c κs = wrote-fits (c .before .before .before .loop .inv) 64 (c .before .before .loop-test .taken)
 
 loop-less : tie.Need-loop-less Inv-loop μ-loop
 loop-less c = search needs
 
 loop-again : tie.Need-loop-again Inv-loop μ-loop
-loop-again c = wrote-block (c .before .before .before .before .before .before .loop .inv) 64 _ (c .before .before .before .before .before .loop-test .taken) (c .before .before .add-block .ensures)
+loop-again c =
+    wrote-more (c .before .before .before .before .before .before .loop .inv) 64 _ (c .before .before .before .before .before .loop-test .taken) (c .before .before .add-block .ensures)
 
 add-add-rest : tie.Need-add-add-rest Inv-loop μ-loop
 add-add-rest c = search needs

@@ -3,7 +3,7 @@ use mathlib.Core.Path.{_≡_, _∙_, refl, sym}
 use native.Mathlib.Omega.{arith}
 use lib.ListN.{length}
 use Rattle.leaves.proofs.Runs.{front-zeros, part-length}
-use Rattle.runs.proofs.Writes.{block-added}
+use Rattle.runs.proofs.Writes.{block-written}
 use borrow.Author.Needs.{needs}
 use Rattle.runs.proofs.add_rest.Statement.{statement}
 use Rattle.runs.proofs.add_rest.Tie as tie
@@ -27,18 +27,22 @@ part-difference-end : tie.Need-part-difference-end
 part-difference-end c = search needs
 
 difference-requires : tie.Need-difference-requires
-difference-requires c κs = (part-length _ _ _ (c .before .before .before .before .before .before .pre .1 .at-p) ∙ front-zeros 64 _ (search needs), front-zeros 64 _ (search needs))
+difference-requires c κs =
+    (part-length _ _ _ (c .before .before .before .before .before .before .pre .1 .inside .at-p) ∙ front-zeros 64 _ (search needs), front-zeros 64 _ (search needs))
 
 add-at-four-requires : tie.Need-add-at-four-requires
 add-at-four-requires c κs =
-    let h : length (c .before .before .before .before .difference .last .0) ≡ length (c .before .before .before .before .before .before .before .before .before .before .before .args .new .now) = c .before .before .before .before .difference .kept .0 ∙ sym (front-zeros 64 _ (search needs)) in
+    let h : length (c .before .before .before .before .difference .last .0) ≡ length (c .before .before .before .before .before .before .before .before .before .before .before .args .new .now) =
+    c .before .before .before .before .difference .kept .0 ∙ sym (front-zeros 64 _ (search needs)) in
     omega arith
 
 same-length : tie.Need-same-length
 same-length c = search needs
 
 returns : tie.Need-returns
-returns c = block-added _ _ _ (c .before .before .before .before .before .before .before .before .before .before .before .before .before .before .before .args .new .now) _ _ _ refl (c .before .before .before .before .before .before .before .before .difference .ensures) (c .before .before .before .add-at-four .ensures)
+returns c =
+    block-written _ _ _ (c .before .before .before .before .before .before .before .before .before .before .before .before .before .before .before .args .new .now) _ _ _ refl
+    (c .before .before .before .before .before .before .before .before .difference .ensures) (c .before .before .before .add-at-four .ensures)
 
 pub add-rest-spec : {M : Type 1} → statement M
 add-rest-spec =

@@ -19,7 +19,10 @@ zero-requires : tie.Need-zero-requires
 zero-requires c κs = search needs
 
 returns : tie.Need-returns
-returns c = zero-gathered _ _ _ _ _ _ (sym (front-zeros 64 _ (search needs))) (at-front-zeros 64 (c .before .before .before .before .before .before .before .before .before .before .args .n)) (c .before .before .before .before .before .gather .ensures) _ (c .before .zero .ensures)
+returns c =
+    zero-gathered _ _ _ _ _ _ (sym (front-zeros 64 _ (search needs)))
+    (at-front-zeros 64 (c .before .before .before .before .before .before .before .before .before .before .args .n))
+    (c .before .before .before .before .before .gather .ensures) _ (c .before .zero .ensures)
 
 pub zero-rest-spec : {M : Type 1} → statement M
 zero-rest-spec =

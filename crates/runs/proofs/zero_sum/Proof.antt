@@ -32,7 +32,8 @@ loop-less : tie.Need-loop-less Inv-loop μ-loop
 loop-less c = search needs
 
 loop-again : tie.Need-loop-again Inv-loop μ-loop
-loop-again c = zeroed-more (c .before .before .before .loop .inv) 64 _ (c .before .before .loop-test .taken) (c .before .zero-block .ensures) (not-false _ (c .if1 .left))
+loop-again c =
+    zeroed-more (c .before .before .before .loop .inv) 64 _ (c .before .before .loop-test .taken) (c .before .zero-block .ensures) (not-false _ (c .if1 .left))
 
 sub-zero-rest : tie.Need-sub-zero-rest Inv-loop μ-loop
 sub-zero-rest c = search needs
