@@ -94,6 +94,9 @@ pub xors-comm : (x y : List ℕ) → length x ≡ length y → xors x y ≡ xors
 xors-comm x y e =
     same-bytes (bytes-xors (bytes-of x) y) (rw (← e) at (bytes-xors (bytes-of y) x)) (λ i l. xor-comm (getD x i 0) (getD y i 0))
 
+pub zeros-xors : (y : List ℕ) → xors (replicate (length y) 0) y ≡ y
+zeros-xors y = xors-comm (replicate (length y) 0) y (bytes-zeros (length y) .long) ∙ xors-zeros y (length y)
+
 pub xors-assoc : (x y z : List ℕ) → length z ≤ length y → xors (xors x y) z ≡ xors x (xors y z)
 xors-assoc x y z e =
     same-bytes (bytes-xors (bytes-xors (bytes-of x) y) z) (bytes-xors (bytes-of x) (xors y z))

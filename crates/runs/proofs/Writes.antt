@@ -1,7 +1,7 @@
 -- A write of bytes as the difference to what was there, added at several places. Assumes nothing.
 use Prim.Native.Nat.{ℕ, zero, suc, _+_, _-_, _≤_, _<_}
 use mathlib.Core.Path.{_≡_, refl, sym, _∙_, ap, subst}
-use mathlib.Core.List.{List, [], _∷_, _++_}
+use mathlib.Core.List.{List, [], _∷_}
 use mathlib.Core.Logic.{⊎-elim, inl, inr}
 use native.Mathlib.Omega.{arith}
 use native.Mathlib.Nat.{add-sub-cancel-left, le-refl}
@@ -120,6 +120,10 @@ four-apart m p q r s n f zero l = f .from-q
 four-apart m p q r s n f (suc zero) l = f .from-r
 four-apart m p q r s n f (suc (suc zero)) l = f .from-s
 four-apart m p q r s n f (suc (suc (suc t))) l = absurd (omega arith)
+
+pub four-there :
+    (a : List ℕ) (p q r s : ℕ) (new : List ℕ) → Four (length a) p q r s (length new) → run (written a p (q ∷ r ∷ s ∷ []) new) p (length new) ≡ new
+four-there a p q r s new f = written-there a p (q ∷ r ∷ s ∷ []) new (f .inside .at-p) (four-apart (length a) p q r s (length new) f)
 
 -- what holds after i bytes
 pub record Wrote (a₀ : List ℕ) (p q r s : ℕ) (new a : List ℕ) (i : ℕ) : Type 0 where

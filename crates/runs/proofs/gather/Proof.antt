@@ -23,10 +23,10 @@ shared-slice-read-p : tie.Need-shared-slice-read-p Inv-loop μ-loop
 shared-slice-read-p c = search needs
 
 add-p : tie.Need-add-p Inv-loop μ-loop
-add-p c = omega (arith, gathered-in (c .before .before .loop .inv) (c .before .loop-test .taken))
+add-p c = omega (arith, gathered-in (c .before .before .loop .inv) (omega arith))
 
 add-end : tie.Need-add-end Inv-loop μ-loop
-add-end c = omega (arith, gathered-in (c .before .before .loop .inv) (c .before .loop-test .taken))
+add-end c = omega (arith, gathered-in (c .before .before .loop .inv) (omega arith))
 
 sub-xor-into : tie.Need-sub-xor-into Inv-loop μ-loop
 sub-xor-into c = search needs
@@ -35,10 +35,10 @@ part-xor-into-start : tie.Need-part-xor-into-start Inv-loop μ-loop
 part-xor-into-start c = search needs
 
 part-xor-into-end : tie.Need-part-xor-into-end Inv-loop μ-loop
-part-xor-into-end c = gathered-in (c .before .before .before .loop .inv) (c .before .before .loop-test .taken)
+part-xor-into-end c = gathered-in (c .before .before .before .loop .inv) (omega arith)
 
 xor-into-requires : tie.Need-xor-into-requires Inv-loop μ-loop
-xor-into-requires c κs = gathered-part (c .before .before .before .before .loop .inv) (c .before .before .before .loop-test .taken)
+xor-into-requires c κs = gathered-part (c .before .before .before .before .loop .inv) (omega arith)
 
 add-t : tie.Need-add-t Inv-loop μ-loop
 add-t c = search needs
@@ -48,13 +48,13 @@ loop-less c = search needs
 
 loop-again : tie.Need-loop-again Inv-loop μ-loop
 loop-again c =
-    gathered-more (c .before .before .before .before .before .before .before .loop .inv) (c .before .before .before .before .before .before .loop-test .taken) _ (c .before .before .xor-into .ensures)
+    gathered-more (c .before .before .before .before .before .before .before .loop .inv) (omega arith) _ (c .before .before .xor-into .ensures)
 
 same-length : tie.Need-same-length Inv-loop μ-loop
 same-length c = search needs
 
 returns : tie.Need-returns Inv-loop μ-loop
-returns c = gathered-all (c .before .loop .inv) (c .loop-test .left)
+returns c = gathered-all (c .before .loop .inv) (omega arith)
 
 pub gather-spec : {M : Type 1} → statement M
 gather-spec =
