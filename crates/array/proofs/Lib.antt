@@ -1,0 +1,9 @@
+pub mod Starts
+pub mod Fits
+pub mod Reasons
+pub mod Kept
+pub mod Formatting
+pub mod Formatted
+pub mod Theorems
+pub mod TwoResults
+pub mod Exact

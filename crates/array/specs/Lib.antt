@@ -1,0 +1,5 @@
+pub mod Array
+pub mod Consistent
+pub mod Rules
+pub mod Reasons
+pub mod Theorems
