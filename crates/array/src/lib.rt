@@ -1,17 +1,20 @@
 // One lent buffer holds all disks, disk 0 whole, then disk 1; marks are one byte a disk (01).
 use geometry::Geometry;
+use geometry::UserUnit;
 use layout::Place;
 use refusal::Checked;
 use refusal::Refusal;
-ghost use Prim.Native.Nat.{_+_, _≤_};
+ghost use Prim.Native.Nat.{_+_, _≤_, _<_};
 ghost use mathlib.Core.Path.{_≡_};
+ghost use lib.Dec.{ltb};
 ghost use lib.ListN.{length};
 ghost use Rattle.counting.specs.Counting.{lowest};
 ghost use Rattle.refusal.specs.Refusal.{verdict, kept, checkedOutcome};
 ghost use Rattle.geometry.specs.Geometry.{Sound, bytesOf};
+ghost use Rattle.layout.specs.Marks.{lost};
 ghost use Rattle.layout.specs.Ranges.{PlaceIn};
 ghost use Rattle.array.specs.Array.{startOf, formattedArray, formattedMarks};
-ghost use Rattle.array.specs.Rules.{arrayFits, markHigh, arrayRules};
+ghost use Rattle.array.specs.Rules.{arrayFits, markHigh, arrayRules, rangeRules};
 
 // Where a unit's first byte lies. The number of a unit fits 32 bits, that of a byte need not.
 pub fn start_of(geometry: Geometry, place: Place) -> usize
@@ -76,6 +79,46 @@ pub fn check_array(geometry: Geometry, design: &[u16], bytes: usize, marks: &[u8
     if high < marks.len() {
         let place = high as u32;
         return Checked::Refused(Refusal { number: 8, place });
+    }
+    Checked::Fine
+}
+
+// Whether the unit at a place is lost.
+pub fn is_lost(geometry: Geometry, marks: &[u8], place: Place) -> bool
+    requires { ⌜ place .disk .0 < length (now marks) ⌝ }
+    ensures { λ r. ⌜ r ≡ lost geometry (now (marks .entry)) place ⌝ }
+{
+    let disk = place.disk.0 as usize;
+    marks[disk] == 1
+}
+
+// "range leaves the unit: its offset plus its length is above u". The sum may not fit 64 bits.
+fn leaves_unit(u: u32, offset: u64, length: usize) -> bool
+    ensures { λ r. ⌜ r ≡ ltb u (offset + length) ⌝ }
+{
+    let size = u as u64;
+    if size < offset {
+        return true;
+    }
+    size - offset < length as u64
+}
+
+// Refusals 10 and 11, of a range of one user unit.
+pub fn check_range(geometry: Geometry, n: UserUnit, offset: u64, length: usize) -> Checked
+    requires { ⌜ Sound geometry ⌝ }
+    ensures { λ r. ⌜ checkedOutcome r ≡ verdict (rangeRules geometry (n .0) offset length) ⌝ }
+{
+    if geometry.user_units() <= n.0 {
+        return Checked::Refused(Refusal {
+            number: 10,
+            place: 0,
+        });
+    }
+    if leaves_unit(geometry.u, offset, length) {
+        return Checked::Refused(Refusal {
+            number: 11,
+            place: 0,
+        });
     }
     Checked::Fine
 }
