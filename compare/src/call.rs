@@ -1,7 +1,9 @@
 //! One call with its arguments, asked of the proved library and of the independent program.
 
+use crate::given::Given;
+use crate::lent::Lent;
 use crate::library::{self, Answer, Flat, MapAnswer, RoleAnswer, SizesAnswer};
-use compare::model::{Geometry, Model};
+use compare::model::Model;
 use std::fmt;
 
 /// The calls of the interface.
@@ -33,15 +35,11 @@ impl Kind {
     }
 }
 
-/// A call; it passes those of the numbers that its kind takes. `list` is the design, or the list to fill.
+/// A call; it passes those of the numbers that its kind takes.
 #[derive(Clone, Debug)]
 pub struct Call {
     pub kind: Kind,
-    pub v: u32,
-    pub k: u32,
-    pub g: u32,
-    pub u: u32,
-    pub list: Vec<u16>,
+    pub given: Given,
     pub user_unit: u32,
     pub disk: u32,
     pub unit: u32,
@@ -68,57 +66,28 @@ impl Reply {
     }
 }
 
-/// A list lent with guard words on both sides of it.
-struct Lent {
-    words: Vec<u16>,
-    length: usize,
-}
-
-impl Lent {
-    const GUARD: [u16; 8] = [0xA55A, 0x5AA5, 0xFFFF, 0x0000, 0x1234, 0x8001, 0x7FFE, 0xC33C];
-
-    fn of(list: &[u16]) -> Lent {
-        Lent { words: [&Self::GUARD, list, &Self::GUARD].concat(), length: list.len() }
-    }
-
-    fn list(&mut self) -> &mut [u16] {
-        &mut self.words[Self::GUARD.len()..][..self.length]
-    }
-
-    fn guarded(&self) -> bool {
-        self.words.starts_with(&Self::GUARD) && self.words.ends_with(&Self::GUARD)
-    }
-}
-
 impl Call {
-    fn geometry<'a>(&self, design: &'a [u16]) -> Geometry<'a> {
-        Geometry { v: self.v, k: self.k, g: self.g, u: self.u, design }
-    }
-
     /// Asks the proved library. The error says which lent word changed that had to stay.
     pub fn ask_library(&self) -> Result<Reply, String> {
-        let mut lent = Lent::of(&self.list);
-        let list = lent.list();
+        let Given { v, k, ref list, .. } = self.given;
+        let mut lent = Lent::of(list, 0);
+        let part = lent.lend(list.len());
         let reply = match self.kind {
             Kind::Fill => {
-                let answer = library::fill(self.v, list);
-                Reply::Fill(answer, list.to_vec())
+                let answer = library::fill(v, part);
+                Reply::Fill(answer, lent.list().to_vec())
             }
-            Kind::Check => Reply::Check(library::check(self.v, self.k, list)),
-            Kind::Sizes => Reply::Sizes(library::sizes(&self.geometry(list))),
-            Kind::Map => Reply::Map(library::map(&self.geometry(list), self.user_unit)),
-            Kind::Role => Reply::Role(library::role(&self.geometry(list), self.disk, self.unit)),
+            Kind::Check => Reply::Check(library::check(v, k, part)),
+            Kind::Sizes => Reply::Sizes(library::sizes(&self.given.geometry(part))),
+            Kind::Map => Reply::Map(library::map(&self.given.geometry(part), self.user_unit)),
+            Kind::Role => Reply::Role(library::role(&self.given.geometry(part), self.disk, self.unit)),
         };
-        if self.kind != Kind::Fill && list != self.list {
-            return Err("the design, lent to read, was changed".into());
-        }
-        if !lent.guarded() {
-            return Err("a word beside the lent list was changed".into());
-        }
-        if let (Reply::Fill(answer, list), true) = (&reply, self.list.is_empty()) {
-            let null = library::fill_null(self.v);
+        let after = if let Reply::Fill(_, filled) = &reply { filled } else { list };
+        lent.difference(&Lent::of(after, 0)).map_err(|fault| format!("the lent list {fault}"))?;
+        if let (Reply::Fill(answer, filled), true) = (&reply, list.is_empty()) {
+            let null = library::fill_null(v);
             if null != *answer {
-                return Err(format!("NULL with length 0 gives {null:?}, an empty list {answer:?}, {list:?}"));
+                return Err(format!("NULL with length 0 gives {null:?}, an empty list {answer:?}, {filled:?}"));
             }
         }
         Ok(reply)
@@ -126,14 +95,15 @@ impl Call {
 
     /// Asks the independent program.
     pub fn ask_model(&self, model: &mut Model) -> Reply {
-        let geometry = self.geometry(&self.list);
+        let Given { v, k, ref list, .. } = self.given;
+        let geometry = self.given.geometry(list);
         match self.kind {
             Kind::Fill => {
-                let mut list = self.list.clone();
-                let answer = Answer::flat(model.fill(self.v, &mut list));
+                let mut list = list.clone();
+                let answer = Answer::flat(model.fill(v, &mut list));
                 Reply::Fill(answer, list)
             }
-            Kind::Check => Reply::Check(Answer::flat(model.check(self.v, self.k, &self.list))),
+            Kind::Check => Reply::Check(Answer::flat(model.check(v, k, list))),
             Kind::Sizes => Reply::Sizes(SizesAnswer::flat(model.sizes(&geometry))),
             Kind::Map => Reply::Map(MapAnswer::flat(model.map(&geometry, self.user_unit))),
             Kind::Role => Reply::Role(RoleAnswer::flat(model.role(&geometry, self.disk, self.unit))),
@@ -144,21 +114,20 @@ impl Call {
 impl fmt::Display for Call {
     /// The arguments that are passed; with `#` the whole list, else its first numbers.
     fn fmt(&self, f: &mut fmt::Formatter) -> fmt::Result {
-        write!(f, "{} v={}", self.kind.name(), self.v)?;
+        let Given { v, k, g, u, .. } = self.given;
+        write!(f, "{} v={v}", self.kind.name())?;
         if self.kind != Kind::Fill {
-            write!(f, " k={}", self.k)?;
+            write!(f, " k={k}")?;
         }
         if matches!(self.kind, Kind::Sizes | Kind::Map | Kind::Role) {
-            write!(f, " g={} u={}", self.g, self.u)?;
+            write!(f, " g={g} u={u}")?;
         }
         match self.kind {
             Kind::Map => write!(f, " user_unit={}", self.user_unit)?,
             Kind::Role => write!(f, " disk={} unit={}", self.disk, self.unit)?,
             _ => {}
         }
-        let shown = if f.alternate() { self.list.len() } else { self.list.len().min(24) };
-        let more = if shown < self.list.len() { " …" } else { "" };
-        let numbers: Vec<String> = self.list[..shown].iter().map(u16::to_string).collect();
-        write!(f, " length={} list={}{more}", self.list.len(), numbers.join(" "))
+        f.write_str(" ")?;
+        self.given.fmt(f)
     }
 }

@@ -14,13 +14,14 @@ pub fn run(seed: u64) -> Result<(), String> {
     println!("seed {seed}");
     set_hook(Box::new(|_| ()));
     let (pool, mut missed) = (pool::all(), Vec::new());
-    for fault in Fault::ALL {
-        match find(*fault, seed, &pool) {
-            Some((number, call)) => println!("found {fault:?} ({})\n  by call {number}: {call}", fault.text()),
+    for (fault, find) in planted() {
+        match find(fault, seed, &pool) {
+            Some(call) => println!("found {fault:?} ({})\n  by {call}", fault.text()),
             None => missed.push(format!("{fault:?}")),
         }
     }
-    println!("{} of {} planted faults found", Fault::ALL.len() - missed.len(), Fault::ALL.len());
+    let all = planted().count();
+    println!("{} of {all} planted faults found", all - missed.len());
     if missed.is_empty() {
         Ok(())
     } else {
@@ -28,12 +29,24 @@ pub fn run(seed: u64) -> Result<(), String> {
     }
 }
 
+/// Looks for a fault, by the seed and the pool, and shows the call that finds it.
+type Find = fn(Fault, u64, &[Design]) -> Option<String>;
+
+/// The faults, each with the way in which it is looked for.
+fn planted() -> impl Iterator<Item = (Fault, Find)> {
+    let mapping = Fault::MAPPING.iter().map(|fault| (*fault, find as Find));
+    #[cfg(feature = "array")]
+    let mapping = mapping.chain(Fault::ARRAY.iter().map(|fault| (*fault, crate::sequences::find as Find)));
+    mapping
+}
+
 /// The first call on which the faulty program answers otherwise, or breaks down over a design it should have refused.
-fn find(fault: Fault, seed: u64, pool: &[Design]) -> Option<(usize, Call)> {
+fn find(fault: Fault, seed: u64, pool: &[Design]) -> Option<String> {
     let mut model = Model::new(Plant::of(fault));
     let mut differs = |call: &Call| {
         let faulty = catch_unwind(AssertUnwindSafe(|| call.ask_model(&mut model)));
         call.ask_library().ok() != faulty.ok()
     };
-    Generator::new(seed, pool).take(MOST).enumerate().find(|(_, call)| differs(call))
+    let mut calls = Generator::new(seed, pool).take(MOST).enumerate();
+    calls.find(|(_, call)| differs(call)).map(|(number, call)| format!("call {number}: {call}"))
 }

@@ -1,7 +1,8 @@
 //! The calls of a run: fixed corners first, then bursts of calls about one design and one g, valid and hostile mixed.
 
 use crate::call::{Call, Kind};
-use crate::hostile::{beyond, spoil};
+use crate::given::Given;
+use crate::hostile::{beyond, spoil, wild_numbers};
 use crate::pool::{self, Design};
 use crate::random::Random;
 
@@ -89,7 +90,8 @@ impl<'a> Generator<'a> {
         }
         let stale = self.random.next();
         let list = (0..length as u64).map(|at| (stale.wrapping_mul(2 * at + 1) >> 40) as u16).collect();
-        Call { v, list, ..blank(Kind::Fill) }
+        let given = Given { v, list, ..Given::default() };
+        Call { kind: Kind::Fill, given, user_unit: 0, disk: 0, unit: 0 }
     }
 
     /// A valid call about the burst's array.
@@ -99,7 +101,7 @@ impl<'a> Generator<'a> {
         let any = 1 + self.random.below(4096) as u32;
         let u = self.random.pick(&[1, 1, 2, 512, 4095, 4096, 4096, any]);
         let (disk, unit, user_unit) = (self.within(disks), self.within(units), self.within(user_units));
-        Call { kind, v, k, g, u, list, user_unit, disk, unit }
+        Call { kind, given: Given { v, k, g, u, list }, user_unit, disk, unit }
     }
 
     /// A call spoiled for one refusal, sometimes for two: then the one tested first must win.
@@ -120,9 +122,7 @@ impl<'a> Generator<'a> {
     /// A call in which every number is wild.
     fn wild(&mut self, kind: Kind) -> Call {
         let mut call = self.valid(kind);
-        for number in [&mut call.v, &mut call.k, &mut call.g, &mut call.u] {
-            *number = if self.random.one_in(2) { *number } else { self.random.wild() };
-        }
+        wild_numbers(&mut call.given, &mut self.random);
         (call.disk, call.unit, call.user_unit) = (self.random.wild(), self.random.wild(), self.random.wild());
         call
     }
@@ -154,22 +154,21 @@ impl Iterator for Generator<'_> {
     }
 }
 
-fn blank(kind: Kind) -> Call {
-    Call { kind, v: 0, k: 0, g: 0, u: 0, list: Vec::new(), user_unit: 0, disk: 0, unit: 0 }
-}
-
 /// Calls that every run makes: document 01's examples, and the corners that a random run could miss.
 fn corners() -> Vec<Call> {
-    let f = |kind| Call { v: 7, k: 3, g: 3, u: 1, list: pool::F.to_vec(), ..blank(kind) };
-    let mut calls: Vec<Call> = (0..86).map(|user_unit| Call { user_unit, ..f(Kind::Map) }).collect();
-    let mut ninth = f(Kind::Check);
+    let call = |kind, given| Call { kind, given, user_unit: 0, disk: 0, unit: 0 };
+    let f = Given { v: 7, k: 3, g: 3, u: 1, list: pool::F.to_vec() };
+    let map = |user_unit| Call { user_unit, ..call(Kind::Map, f.clone()) };
+    let mut ninth = f.clone();
     ninth.list[18..].copy_from_slice(&[1, 4, 6]);
-    let tenth = |length| Call { v: 51, k: 8, list: vec![0; length], ..blank(Kind::Check) };
-    let twelfth = |kind| Call { v: 2, k: 2, g: 2, u: 1, list: vec![0, 1], ..blank(kind) };
-    calls.extend([ninth, tenth(0), tenth(360), tenth(408), Call { g: 9, ..f(Kind::Sizes) }]);
-    calls.extend([twelfth(Kind::Sizes), twelfth(Kind::Map), Call { list: Vec::new(), ..twelfth(Kind::Check) }]);
-    let largest = Design::complete(91).numbers;
-    let bytes = [1, 775, 776, 3104, 4096];
-    calls.extend(bytes.map(|u| Call { v: 91, k: 2, g: 13, u, list: largest.clone(), ..blank(Kind::Sizes) }));
+    let tenth = |length| call(Kind::Check, Given { v: 51, k: 8, list: vec![0; length], ..Given::default() });
+    let twelfth = Given { v: 2, k: 2, g: 2, u: 1, list: vec![0, 1] };
+    let mut calls: Vec<Call> = (0..86).map(map).collect();
+    calls.extend([call(Kind::Check, ninth), tenth(0), tenth(360), tenth(408)]);
+    calls.push(call(Kind::Sizes, Given { g: 9, ..f.clone() }));
+    calls.extend([Kind::Sizes, Kind::Map].map(|kind| call(kind, twelfth.clone())));
+    calls.push(call(Kind::Check, Given { list: Vec::new(), ..twelfth }));
+    let largest = |u| Given { v: 91, k: 2, g: 13, u, list: Design::complete(91).numbers };
+    calls.extend([1, 775, 776, 3104, 4096].map(|u| call(Kind::Sizes, largest(u))));
     calls
 }

@@ -2,20 +2,35 @@
 //! refusal comes first, or the call stays valid); what was really answered is what the run counts.
 
 use crate::call::Call;
+use crate::given::Given;
 use crate::random::Random;
 use compare::model::{Model, Plant};
 
 /// Spoils a valid call so that it should be refused with the number.
 pub fn spoil(call: &mut Call, number: u32, random: &mut Random) {
     match number {
-        2 => limits(call, random),
-        3 => lengths(call, random),
-        4 => rows(call, random),
-        5 => pairs(call, random),
-        6 => group_and_unit(call, random),
         9 => disk_and_unit(call, random),
         10 => call.user_unit = beyond(call.user_unit, random),
+        _ => spoil_given(&mut call.given, number, random),
+    }
+}
+
+/// Spoils the numbers and the design that a valid call is given, for one of the refusals 2 to 6.
+pub fn spoil_given(given: &mut Given, number: u32, random: &mut Random) {
+    match number {
+        2 => limits(given, random),
+        3 => lengths(given, random),
+        4 => rows(given, random),
+        5 => pairs(given, random),
+        6 => group_and_unit(given, random),
         _ => unreachable!("no call of the interface has this refusal"),
+    }
+}
+
+/// Half of the numbers, or so, become wild.
+pub fn wild_numbers(given: &mut Given, random: &mut Random) {
+    for number in [&mut given.v, &mut given.k, &mut given.g, &mut given.u] {
+        *number = if random.one_in(2) { *number } else { random.wild() };
     }
 }
 
@@ -30,41 +45,41 @@ pub fn beyond(bound: u32, random: &mut Random) -> u32 {
 }
 
 /// 2: v or k beyond its limits, among them k > v, and numbers that become valid when their high bits are lost.
-fn limits(call: &mut Call, random: &mut Random) {
+fn limits(given: &mut Given, random: &mut Random) {
     let high = 1u32 << random.pick(&[8, 16, 24, 31]);
     match random.below(7) {
-        0 => call.v = random.pick(&[0, 1, 92, 93, 127, 128, 255, 256]),
-        1 => call.v = random.wild(),
-        2 => call.k = random.pick(&[0, 1, 11, 12, 13, 15, 16]),
-        3 => call.k = random.wild(),
-        4 => call.v = call.v.wrapping_add(high),
-        5 => call.k = call.k.wrapping_add(high),
+        0 => given.v = random.pick(&[0, 1, 92, 93, 127, 128, 255, 256]),
+        1 => given.v = random.wild(),
+        2 => given.k = random.pick(&[0, 1, 11, 12, 13, 15, 16]),
+        3 => given.k = random.wild(),
+        4 => given.v = given.v.wrapping_add(high),
+        5 => given.k = given.k.wrapping_add(high),
         _ => {
-            call.v = 2 + random.below(8) as u32;
-            call.k = call.v + 1 + random.below(10 - call.v as usize) as u32;
+            given.v = 2 + random.below(8) as u32;
+            given.k = given.v + 1 + random.below(10 - given.v as usize) as u32;
         }
     }
 }
 
 /// 3: a list of another length, or v and k for which r or b is not whole.
-fn lengths(call: &mut Call, random: &mut Random) {
-    let k = row_length(call);
-    let ways = if call.list.is_empty() { 1 } else { 9 };
+fn lengths(given: &mut Given, random: &mut Random) {
+    let k = row_length(given);
+    let ways = if given.list.is_empty() { 1 } else { 9 };
     match random.below(ways) {
-        0 => call.list.push(random.below(100) as u16),
-        1 => drop(call.list.pop()),
-        2 => call.list.truncate(call.list.len() - k),
-        3 => call.list.extend_from_within(..k),
-        4 => call.list.clear(),
-        5 => call.list.truncate(random.below(call.list.len())),
-        6 => call.list.resize(call.list.len() + if random.one_in(30) { 65536 } else { 256 }, 0),
-        _ => not_whole(call, random),
+        0 => given.list.push(random.below(100) as u16),
+        1 => drop(given.list.pop()),
+        2 => given.list.truncate(given.list.len() - k),
+        3 => given.list.extend_from_within(..k),
+        4 => given.list.clear(),
+        5 => given.list.truncate(random.below(given.list.len())),
+        6 => given.list.resize(given.list.len() + if random.one_in(30) { 65536 } else { 256 }, 0),
+        _ => not_whole(given, random),
     }
 }
 
 /// Limits kept, r or b not whole: any such v and k, with the list as it was, or with as many rows as b rounded down.
 /// Half of the time a pair is sought in which just one of r and b is not whole.
-fn not_whole(call: &mut Call, random: &mut Random) {
+fn not_whole(given: &mut Given, random: &mut Random) {
     let one_only = random.one_in(2);
     loop {
         let v = 2 + random.below(90) as u32;
@@ -73,24 +88,24 @@ fn not_whole(call: &mut Call, random: &mut Random) {
         if k > v || (r && b) || one_only && !(r || b) {
             continue;
         }
-        (call.v, call.k) = (v, k);
+        (given.v, given.k) = (v, k);
         if !random.one_in(3) {
             let tuples = v * (v - 1) / (k * (k - 1));
-            call.list = (0..tuples).flat_map(|_| random.ascending(k as usize, v as usize)).collect();
+            given.list = (0..tuples).flat_map(|_| random.ascending(k as usize, v as usize)).collect();
         }
         return;
     }
 }
 
 /// The length of the list's rows; 1 where an earlier spoiling left none.
-fn row_length(call: &Call) -> usize {
-    (call.k as usize).clamp(1, call.list.len().max(1))
+fn row_length(given: &Given) -> usize {
+    (given.k as usize).clamp(1, given.list.len().max(1))
 }
 
 /// The start of some row of the list, often the first or the last.
-fn some_row(call: &Call, random: &mut Random) -> usize {
-    let k = row_length(call);
-    let rows = (call.list.len() / k).max(1);
+fn some_row(given: &Given, random: &mut Random) -> usize {
+    let k = row_length(given);
+    let rows = (given.list.len() / k).max(1);
     let row = match random.below(4) {
         0 => 0,
         1 => rows - 1,
@@ -100,14 +115,14 @@ fn some_row(call: &Call, random: &mut Random) -> usize {
 }
 
 /// 4: a number out of range or a row that does not ascend, in one row or in a few.
-fn rows(call: &mut Call, random: &mut Random) {
-    let k = row_length(call);
-    if call.list.len() < 2 || k < 2 {
+fn rows(given: &mut Given, random: &mut Random) {
+    let k = row_length(given);
+    if given.list.len() < 2 || k < 2 {
         return;
     }
     for _ in 0..random.pick(&[1, 1, 2, 5]) {
-        let start = some_row(call, random);
-        let (v, row) = (call.v as u16, &mut call.list[start..][..k]);
+        let start = some_row(given, random);
+        let (v, row) = (given.v as u16, &mut given.list[start..][..k]);
         let (any, next) = (random.below(k), random.below(k - 1));
         match random.below(8) {
             0 => row[k - 1] = v,
@@ -123,23 +138,23 @@ fn rows(call: &mut Call, random: &mut Random) {
 }
 
 /// 5: the rows ascend and stay in range, but some pair stands in no row or in several.
-fn pairs(call: &mut Call, random: &mut Random) {
-    let k = row_length(call);
-    if call.list.len() < 2 * k || call.v as usize <= k || call.v > 91 {
+fn pairs(given: &mut Given, random: &mut Random) {
+    let k = row_length(given);
+    if given.list.len() < 2 * k || given.v as usize <= k || given.v > 91 {
         return;
     }
-    let tries = if call.list.len() * call.v as usize <= 2000 && random.one_in(4) { 12 } else { 1 };
+    let tries = if given.list.len() * given.v as usize <= 2000 && random.one_in(4) { 12 } else { 1 };
     let model = Model::new(Plant::NONE);
-    let mut latest = (0, call.list.clone());
+    let mut latest = (0, given.list.clone());
     for _ in 0..tries {
-        let mut list = call.list.clone();
-        pairs_once(&mut list, k, call.v as usize, random);
-        let place = model.check(call.v, call.k, &list).map_or_else(|refusal| refusal.place, |()| 0);
+        let mut list = given.list.clone();
+        pairs_once(&mut list, k, given.v as usize, random);
+        let place = model.check(given.v, given.k, &list).map_or_else(|refusal| refusal.place, |()| 0);
         if tries == 1 || place >= latest.0 {
             latest = (place, list);
         }
     }
-    call.list = latest.1;
+    given.list = latest.1;
 }
 
 /// One such change. With several tries the caller keeps the one whose lowest wrong pair comes latest.
@@ -174,16 +189,16 @@ fn step(row: &mut [u16], v: usize, random: &mut Random) {
 }
 
 /// 6: g not a prime from 2 to 13, or below k, or u not 1 to 4,096.
-fn group_and_unit(call: &mut Call, random: &mut Random) {
+fn group_and_unit(given: &mut Given, random: &mut Random) {
     let high = 1u32 << random.pick(&[8, 16, 24, 31]);
     match random.below(8) {
-        0 | 1 => call.g = random.pick(&[0, 1, 4, 6, 8, 9, 10, 12, 14, 15, 16, 17, 19]),
-        2 => call.g = random.below(call.k.clamp(1, 16) as usize) as u32,
-        3 => call.g = random.wild(),
-        4 => call.g = call.g.wrapping_add(high),
-        5 => call.u = random.pick(&[0, 0, 4097, 4097, 4098, 8192, 65535, 65536]),
-        6 => call.u = random.wild(),
-        _ => call.u = call.u.wrapping_add(high).max(4097),
+        0 | 1 => given.g = random.pick(&[0, 1, 4, 6, 8, 9, 10, 12, 14, 15, 16, 17, 19]),
+        2 => given.g = random.below(given.k.clamp(1, 16) as usize) as u32,
+        3 => given.g = random.wild(),
+        4 => given.g = given.g.wrapping_add(high),
+        5 => given.u = random.pick(&[0, 0, 4097, 4097, 4098, 8192, 65535, 65536]),
+        6 => given.u = random.wild(),
+        _ => given.u = given.u.wrapping_add(high).max(4097),
     }
 }
 

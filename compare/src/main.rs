@@ -4,43 +4,62 @@ mod call;
 mod faults;
 mod figure4;
 mod generator;
+mod given;
 mod hostile;
+mod lent;
 mod library;
 mod pool;
 mod random;
 mod run;
+#[cfg(feature = "array")]
+mod sequences;
+mod tally;
 mod units;
 
 use std::process::ExitCode;
 use std::time::{Instant, SystemTime, UNIX_EPOCH};
 
 const USAGE: &str = "usage: compare compare [--seed N] [--calls N]   random calls, valid and hostile, answers counted
+       compare sequences [--seed N] [--from N] [--count N]
+                                                 sequences of calls on arrays, every lent byte compared; a long run is
+                                                 `compare sequences --count 100000`, one sequence alone
+                                                 `compare sequences --seed N --from N --count 1`
        compare units                             every unit and user unit of many arrays
        compare figure4 FILE                      document 000's figure 4, from a data file
        compare faults [--seed N]                 planted faults, each to be found";
 
 /// The number of calls of a run, unless it is told another.
-const CALLS: usize = 120_000;
+const CALLS: u64 = 120_000;
 
-/// The numbers after `--seed` and `--calls`.
-fn options(words: &[&str]) -> Option<(u64, usize)> {
-    let clock = SystemTime::now().duration_since(UNIX_EPOCH).map_or(0, |time| time.as_nanos() as u64);
-    let (mut seed, mut calls) = (clock, CALLS);
+/// The seed of a run that is told none.
+fn clock() -> u64 {
+    SystemTime::now().duration_since(UNIX_EPOCH).map_or(0, |time| time.as_nanos() as u64)
+}
+
+/// The numbers after the named options, or what stands beside the names; none if the words have another form.
+fn options<const N: usize>(words: &[&str], named: [(&str, u64); N]) -> Option<[u64; N]> {
+    let mut numbers = named.map(|(_, number)| number);
     for two in words.chunks(2) {
-        match two {
-            ["--seed", number] => seed = number.parse().ok()?,
-            ["--calls", number] => calls = number.parse().ok()?,
-            _ => return None,
-        }
+        let [name, number] = two else { return None };
+        let at = named.iter().position(|(option, _)| option == name)?;
+        numbers[at] = number.parse().ok()?;
     }
-    Some((seed, calls))
+    Some(numbers)
 }
 
 /// Runs what the words ask for; none if they ask for nothing.
 fn asked(words: &[&str]) -> Option<Result<(), String>> {
+    let seed = ("--seed", clock());
     match words {
-        ["compare", rest @ ..] => options(rest).map(|(seed, calls)| run::run(seed, calls)),
-        ["faults", rest @ ..] => options(rest).map(|(seed, _)| faults::run(seed)),
+        ["compare", rest @ ..] => {
+            options(rest, [seed, ("--calls", CALLS)]).map(|[seed, calls]| run::run(seed, calls as usize))
+        }
+        #[cfg(feature = "array")]
+        ["sequences", rest @ ..] => options(rest, [seed, ("--from", 0), ("--count", sequences::COUNT)])
+            .map(|[seed, from, count]| sequences::run(seed, from, count)),
+        #[cfg(not(feature = "array"))]
+        ["sequences", ..] => Some(Err("sequences: this program was built without the feature `array`".into())),
+        ["faults", rest @ ..] => options(rest, [seed]).map(|[seed]| faults::run(seed)),
         ["units"] => Some(units::run()),
         ["figure4", path] => Some(figure4::run(path)),
         _ => None,

@@ -8,27 +8,43 @@
 //! see [`fault`]. With [`Plant::NONE`] none of them is taken.
 
 mod answer;
+mod array;
+mod cut;
 mod design;
 pub mod fault;
 mod held;
 mod homes;
 mod layout;
+mod lent;
 mod region;
+mod sets;
 #[cfg(test)]
 mod tests;
 
-pub use answer::{Geometry, Map, Place, Refusal, Role, Sizes};
+pub use answer::{Audit, Geometry, Map, Place, Refusal, Role, Sizes};
+use design::Counts;
 pub use fault::{Fault, Plant};
 use layout::Layout;
+use sets::Sets;
 
 /// "Each takes the design anew and checks it anew": each call below repeats all tests. The layout of the geometry that
 /// was accepted last is kept, since filling its tables takes long, and is used again only for that same geometry.
+///
+/// The calls on the array are in `array`, what they ask of the lent bytes in `lent`.
 pub struct Model {
     plant: Plant,
-    last: Option<(Key, Layout)>,
+    last: Option<Last>,
 }
 
-/// What a layout depends on: v, k, g and the design.
+/// A geometry that was accepted, with its tables; the sets are walked when they are first asked for.
+struct Last {
+    key: Key,
+    counts: Counts,
+    layout: Layout,
+    sets: Option<Sets>,
+}
+
+/// What the tables depend on: v, k, g and the design.
 type Key = (u32, u32, u32, Vec<u16>);
 
 impl Model {
@@ -67,8 +83,8 @@ impl Model {
     /// Tests the geometry and fills its tables, unless it is the last one again; u is tested each time.
     fn layout(&mut self, geometry: &Geometry) -> Result<&Layout, Refusal> {
         let Geometry { v, k, g, u, design } = *geometry;
-        let again = matches!(&self.last, Some((key, _)) if (key.0, key.1, key.2) == (v, k, g) && key.3 == design);
-        if again {
+        let same = |Last { key, .. }: &Last| (key.0, key.1, key.2) == (v, k, g) && key.3 == design;
+        if self.last.as_ref().is_some_and(same) {
             design::group_and_unit(k, g, u, self.plant)?;
         } else {
             if self.plant.has(Fault::SixBeforeFive) {
@@ -77,8 +93,8 @@ impl Model {
             let counts = design::check(v, k, design, self.plant)?;
             design::group_and_unit(k, g, u, self.plant)?;
             let layout = Layout::filled(v, k, g, counts, design, self.plant);
-            self.last = Some(((v, k, g, design.to_vec()), layout));
+            self.last = Some(Last { key: (v, k, g, design.to_vec()), counts, layout, sets: None });
         }
-        Ok(&self.last.as_ref().expect("a layout was just accepted").1)
+        Ok(&self.last.as_ref().expect("a layout was just accepted").layout)
     }
 }

@@ -43,6 +43,12 @@ impl Random {
         all
     }
 
+    #[cfg(feature = "array")]
+    pub fn bytes(&mut self, length: usize) -> Vec<u8> {
+        let words = (0..length.div_ceil(8)).flat_map(|_| self.next().to_le_bytes());
+        words.take(length).collect()
+    }
+
     /// A number that a caller should not send: 0, 1, around a power of two, the highest, or any.
     pub fn wild(&mut self) -> u32 {
         let power = 1u32 << self.below(32);

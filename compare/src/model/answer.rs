@@ -59,3 +59,10 @@ pub struct Sizes {
     pub sets: u32,
     pub bytes: u64,
 }
+
+/// What audit answers: "how many sets don't XOR to zero and the lowest such number, 0 if none".
+#[derive(Clone, Copy, Debug, PartialEq, Eq)]
+pub struct Audit {
+    pub bad: u32,
+    pub lowest: u32,
+}

@@ -26,24 +26,26 @@ impl Plant {
     }
 }
 
-/// The faults with what each does, said once.
+/// The faults with what each does, said once: lists of faults, each list a constant of its own.
 macro_rules! faults {
-    ($($name:ident: $text:literal,)*) => {
+    ($($(#[$about:meta])* $list:ident { $($name:ident: $text:literal,)* })*) => {
         #[derive(Clone, Copy, Debug, PartialEq, Eq)]
-        pub enum Fault { $(#[doc = $text] $name),* }
+        pub enum Fault { $($(#[doc = $text] $name,)*)* }
 
         impl Fault {
-            pub const ALL: &[Fault] = &[$(Fault::$name),*];
+            $($(#[$about])* pub const $list: &[Fault] = &[$(Fault::$name),*];)*
 
             /// What the fault does.
             pub fn text(self) -> &'static str {
-                match self { $(Fault::$name => $text),* }
+                match self { $($(Fault::$name => $text,)*)* }
             }
         }
     };
 }
 
 faults! {
+/// Faults of the design, the sizes and the mapping.
+MAPPING {
     FiftyOne: "the fifth held set is for 51, as table 1 prints",
     FillUnsorted: "a held row is not sorted after the addition modulo v",
     FillFromRowOne: "row i of a held design has i+1 added",
@@ -90,4 +92,48 @@ faults! {
     ColumnForLabel: "the way back names an outer parity by its column, not its label",
     InnerSetsForgotten: "the count of sets leaves out the inner sets",
     BytesWrap: "the array's bytes are counted in 32 bits",
+}
+
+/// Faults of the calls on the array.
+ARRAY {
+    UnitsAcrossDisks: "the buffer holds unit 0 of all disks, then unit 1 of all disks",
+    FormatLastDisk: "format leaves the last disk",
+    FormatMarks: "format leaves the marks",
+    FormatHeals: "format does not test 8 and heals a mark of 2",
+    SevenNoLimit: "7 without the limit: an array above 1,073,741,824 bytes is accepted",
+    SevenLongerArray: "7 without a longer array: bytes beyond the last disk are ignored",
+    SevenNoMarks: "7 without the length of the marks",
+    EightBeforeSeven: "refusal 8 is tested before 7",
+    EightHighest: "the place of refusal 8 is the highest disk",
+    EightTwo: "a mark of 2 is accepted",
+    ElevenBeforeTen: "refusal 11 is tested before 10",
+    ElevenWraps: "offset and length are added in 64 bits and wrap",
+    ElevenNarrow: "the offset is cut to 32 bits",
+    ElevenAtEnd: "an empty range at offset u is refused",
+    ElevenEmpty: "an empty range is accepted at any offset",
+    TwelveBeforeEleven: "refusal 12 is tested before 11",
+    TwelveLowest: "the place of refusal 12 is the lowest marked disk",
+    TwelveDataAlone: "write asks for the mark of the data disk alone",
+    ReadIgnoresMark: "read ignores the mark",
+    ReadAsksFour: "read asks for the marks of all four disks",
+    ReadFromStart: "read ignores the offset",
+    ReadStoresOnRefusal: "read clears its buffer before it refuses",
+    WriteNothing: "write stores nothing",
+    WriteDataAlone: "write changes the data unit alone",
+    WriteNoThird: "write leaves out the inner parity of the data unit",
+    WriteNoFourth: "write leaves out the inner parity of the outer parity unit",
+    WriteWrongDiagonal: "write changes the inner parity of another diagonal",
+    WriteNewBytes: "write XORs the new bytes into the parities, not the difference",
+    WriteCopies: "write stores the new bytes into the parities",
+    WriteFromStart: "write changes the parities from their first byte on",
+    WriteStoresOnRefusal: "write stores the data and then refuses by 12",
+    AuditNone: "audit finds no bad set ever",
+    AuditOne: "audit counts at most one bad set",
+    AuditMore: "audit counts one bad set more than there are",
+    AuditSkipsLast: "audit skips the last set",
+    AuditLowestOff: "audit's number is one higher than the lowest",
+    AuditHighest: "audit's number is the highest",
+    AuditInnerFirst: "audit numbers a tuple's inner sets before its outer sets",
+    AuditFirstByte: "audit looks at the first byte of each unit alone",
+}
 }

@@ -33,7 +33,7 @@ impl Region {
     }
 
     /// The cell that bears a label, searched row by row.
-    fn find(&self, label: Label) -> Cell {
+    pub fn find(&self, label: Label) -> Cell {
         let rows = self.labels.iter().enumerate();
         let mut found = rows.filter_map(|(row, labels)| Some((row, labels.iter().position(|at| *at == label)?)));
         found.next().expect("every label stands in every region")

@@ -1,5 +1,7 @@
 //! Document 01's examples that concern the mapping, and design F's parts.
 
+mod array;
+
 use super::{Geometry, Map, Model, Place, Plant, Refusal, Role};
 
 /// Document 000's equation 1.

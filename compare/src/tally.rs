@@ -1,0 +1,65 @@
+//! How often each call gave each answer, and what a run must show of it.
+
+/// The least number of times that each refusal of each call must occur in a run.
+const LEAST: u64 = 500;
+
+/// A call's name, the refusal numbers of document 01 that apply to it, and its answers by number; 0 is acceptance.
+struct Line {
+    name: &'static str,
+    refusals: &'static [u32],
+    counts: [u64; 15],
+}
+
+impl Line {
+    fn calls(&self) -> u64 {
+        self.counts.iter().sum()
+    }
+}
+
+/// One line a call.
+pub struct Tally(Vec<Line>);
+
+impl Tally {
+    pub fn of(calls: impl IntoIterator<Item = (&'static str, &'static [u32])>) -> Tally {
+        let line = |(name, refusals)| Line { name, refusals, counts: [0; 15] };
+        Tally(calls.into_iter().map(line).collect())
+    }
+
+    /// Counts an answer of the call with this index.
+    pub fn add(&mut self, call: usize, refusal: u32) {
+        self.0[call].counts[refusal as usize] += 1;
+    }
+
+    pub fn accepted(&self) -> u64 {
+        self.0.iter().map(|line| line.counts[0]).sum()
+    }
+
+    pub fn calls(&self) -> u64 {
+        self.0.iter().map(Line::calls).sum()
+    }
+
+    /// One line a call: the calls, those accepted, then each refusal that applies.
+    pub fn print(&self) {
+        println!("call     calls accepted  refused: number x times");
+        for line in &self.0 {
+            let number = |number: &u32| format!("{number} x {}", line.counts[*number as usize]);
+            let refusals: Vec<String> = line.refusals.iter().map(number).collect();
+            println!("{:6} {:7} {:8}  {}", line.name, line.calls(), line.counts[0], refusals.join(", "));
+        }
+    }
+
+    /// What a run must show: half of the calls accepted, and each refusal of each call often enough.
+    pub fn demands(&self) -> Result<(), String> {
+        if self.accepted() * 2 < self.calls() {
+            return Err("fewer than half of the calls were accepted".into());
+        }
+        for line in &self.0 {
+            for number in line.refusals {
+                if line.counts[*number as usize] < LEAST {
+                    return Err(format!("{} gave refusal {number} fewer than {LEAST} times", line.name));
+                }
+            }
+        }
+        Ok(())
+    }
+}
