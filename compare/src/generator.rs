@@ -60,9 +60,8 @@ impl<'a> Generator<'a> {
 
     fn next_burst(&mut self) -> Burst {
         let design = self.next_design();
-        let primes: Vec<u32> = [2, 3, 5, 7, 11, 13].into_iter().filter(|g| *g >= design.k).collect();
-        let left = (4_000_000 / design.cost()).clamp(6, 60);
-        Burst::new(design, self.random.pick(&primes), left)
+        let (g, left) = (self.random.pick(&design.groups()), (4_000_000 / design.cost()).clamp(6, 60));
+        Burst::new(design, g, left)
     }
 
     /// A number below the bound, often the first or the last ones.

@@ -49,15 +49,16 @@ impl<W: Word> Lent<W> {
         &self.words[self.start..][..self.length]
     }
 
-    /// The first word that differs from another lent list's, redzones and all, if one does.
+    /// The first word, redzones and all, that differs from that of another lent list of this length, if one does.
     pub fn difference(&self, other: &Lent<W>) -> Result<(), String> {
-        if self.words == other.words && self.start == other.start {
+        assert_eq!((self.start, self.length), (other.start, other.length), "lists of one length are compared");
+        if self.words == other.words {
             return Ok(());
         }
-        let at = self.words.iter().zip(&other.words).position(|(this, that)| this != that).unwrap_or(0);
-        let index = at as i64 - self.start as i64;
-        let (length, this, that) = (self.length, self.words.get(at), other.words.get(at));
-        Err(format!("at index {index} (length {length}) is {this:?} and should be {that:?}"))
+        let mut both = self.words.iter().zip(&other.words);
+        let at = both.position(|(this, that)| this != that).expect("some word differs");
+        let (index, this, that) = (at as i64 - self.start as i64, self.words[at], other.words[at]);
+        Err(format!("at index {index} (length {}) is {this:?} and should be {that:?}", self.length))
     }
 }
 

@@ -49,6 +49,11 @@ impl Design {
         Design::of_rows(k.into(), vec![(0..k).collect()])
     }
 
+    /// The g that are allowed with the design.
+    pub fn groups(&self) -> Vec<u32> {
+        [2, 3, 5, 7, 11, 13].into_iter().filter(|g| *g >= self.k).collect()
+    }
+
     /// About how long a search through all pairs and rows takes.
     pub fn cost(&self) -> usize {
         (self.v * self.v) as usize * self.numbers.len() / self.k as usize

@@ -19,14 +19,11 @@ impl Sets {
         let homes = Homes::found(*v, *k, *g, counts, design, plant);
         let regions: Vec<Region> = (0..*k as usize).map(|l| Region::at_position(l, *g as usize, plant)).collect();
         let sets = of_one_tuple(&regions, plant);
-        let of_tuple =
-            |t: usize, set: &[(usize, Cell)]| set.iter().map(|(l, cell)| homes.place(t, *l, *cell)).collect();
-        Sets(
-            (0..homes.rows.len())
-                .flat_map(|t| sets.iter().map(move |set| (t, set)))
-                .map(|(t, set)| of_tuple(t, set))
-                .collect(),
-        )
+        let mut all = Vec::new();
+        for t in 0..homes.rows.len() {
+            all.extend(sets.iter().map(|set| set.iter().map(|(l, cell)| homes.place(t, *l, *cell)).collect()));
+        }
+        Sets(all)
     }
 
     /// The numbers of the sets that don't XOR to zero, upwards.

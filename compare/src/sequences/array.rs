@@ -47,10 +47,9 @@ impl Array {
     pub fn drawn(design: &Design, random: &mut Random) -> Array {
         let Design { v, k, ref numbers } = *design;
         let units = |g: u32| (v * g * (v - 1) / (k - 1) * g) as usize;
-        let fits = |g: &u32| *g >= k && units(*g) <= MOST;
-        let primes: Vec<u32> = [2, 3, 5, 7, 11, 13].into_iter().filter(fits).collect();
+        let groups: Vec<u32> = design.groups().into_iter().filter(|g| units(*g) <= MOST).collect();
         loop {
-            let g = random.pick(&primes).min(random.pick(&primes));
+            let g = random.pick(&groups).min(random.pick(&groups));
             let u = unit(MOST / units(g), random);
             if random.one_in(1 + units(g) * u / SMALL) {
                 return Array::of(Given { v, k, g, u: u as u32, list: numbers.clone() });

@@ -45,10 +45,9 @@ fn bytes(given: &Given) -> u64 {
 /// The largest array of the pool's designs that is within the limit, and the smallest that is above it.
 fn nearest(pool: &[Design]) -> (Given, Given) {
     let with = |design: &Design, g, u| Given { v: design.v, k: design.k, g, u, list: design.numbers.clone() };
-    let groups = |design: &Design| [2, 3, 5, 7, 11, 13].into_iter().filter(move |g| *g >= design.k).collect::<Vec<_>>();
     let (mut below, mut above) = (None, None);
     for design in pool {
-        for g in groups(design) {
+        for g in design.groups() {
             let u = (LIMIT / bytes(&with(design, g, 1))) as u32;
             if (1..4096).contains(&u) {
                 below = below.into_iter().chain([with(design, g, u)]).max_by_key(bytes);
@@ -64,8 +63,8 @@ pub fn run(pool: &[Design], model: &mut Model, mut made: impl FnMut(Kind, u32)) 
     let mut number = 0;
     for Corner { given, lent, calls } in corners(pool) {
         let array = Array::of(given);
-        let shelf =
-            || Shelf { array: Lent::zeros(lent as usize, 5), marks: Lent::of(&vec![0; array.sizes.disks as usize], 0) };
+        let marks = vec![0; array.sizes.disks as usize];
+        let shelf = || Shelf { array: Lent::zeros(lent as usize, 5), marks: Lent::of(&marks, 0) };
         let mut pair = Pair::of(shelf(), shelf(), 0);
         for kind in calls {
             crash::at(crash::LIMIT, number);

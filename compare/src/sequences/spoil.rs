@@ -29,8 +29,8 @@ fn lengths(step: &mut Step, array: &Array, random: &mut Random) {
     let call = &mut step.call;
     let given = &mut call.given;
     match random.below(if call.kind == Kind::Audit { 6 } else { 10 }) {
-        0 => given.g = random.pick(&[2, 3, 5, 7, 11, 13].map(|g: u32| if g >= given.k { g } else { given.g })),
-        1 => given.u = random.pick(&[1, 2, 512, 4096, given.u + 1, given.u * 2]),
+        0 => given.g = random.pick(&[2, 3, 5, 7, 11, 13]).max(array.given.g),
+        1 => given.u = random.pick(&[1, 2, 512, 4096, array.given.u + 1, array.given.u * 2]),
         2..=5 => call.array = another(array.bytes(), array.given.u as usize, random),
         _ => call.marks = another(step.marks.len(), array.given.g as usize, random),
     }

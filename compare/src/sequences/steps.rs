@@ -82,7 +82,7 @@ impl Steps {
             Kind::Format | Kind::Audit => &[],
         };
         asked.iter().for_each(|place| marks[place.disk as usize] = 0);
-        let damaged = kind == Kind::Audit && !self.random.one_in(3);
+        let damaged = kind == Kind::Audit && self.random.one_in(2);
         let damage = if damaged { damage(&mut self.array, &mut self.random) } else { Vec::new() };
         let (array, disks, given) = (self.array.bytes(), marks.len(), self.array.given.clone());
         let null = self.random.one_in(2);

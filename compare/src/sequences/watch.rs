@@ -10,12 +10,12 @@ use compare::model::{Audit, Model};
 const CONSISTENT: Audit = Audit { bad: 0, lowest: 0 };
 
 /// What the independent program's walk through the sets found in the array last, if the harness did not change it since;
-/// and how many writes were watched.
+/// and how many writes were watched and audits accepted, each on consistent and on other arrays.
 #[derive(Default)]
 pub struct Watch {
     found: Option<Audit>,
-    consistent: u64,
-    damaged: u64,
+    writes: [u64; 2],
+    audits: [u64; 2],
 }
 
 impl Watch {
@@ -36,29 +36,34 @@ impl Watch {
         if !step.damage.is_empty() && !step.repair {
             self.found = None;
         }
+        let accepted = answer.refusal == 0;
         let before = match step.call.kind {
-            Kind::Format => Some(CONSISTENT),
-            Kind::Write => self.found,
-            Kind::Read | Kind::Audit => return Ok(()),
+            Kind::Format if accepted => Some(CONSISTENT),
+            Kind::Write if accepted => self.found,
+            Kind::Audit if accepted => {
+                self.audits[usize::from(answer.bad > 0)] += 1;
+                return Ok(());
+            }
+            _ => return Ok(()),
         };
-        if answer.refusal != 0 {
-            return Ok(());
-        }
         let walked = model.audit(&given.geometry(&given.list), now.array.list());
         let found = walked.map_err(|refusal| format!("the array can't be audited: {refusal:?}"))?;
         if let Some(before) = before.filter(|before| *before != found) {
             return Err(format!("the sets had {before:?} and have {found:?}"));
         }
         self.found = Some(found);
-        if step.call.kind == Kind::Write {
-            self.consistent += u64::from(before == Some(CONSISTENT));
-            self.damaged += u64::from(before.is_some_and(|before| before != CONSISTENT));
+        if let (Kind::Write, Some(before)) = (step.call.kind, before) {
+            self.writes[usize::from(before != CONSISTENT)] += 1;
         }
         Ok(())
     }
 
     pub fn print(&self) {
-        println!("{} writes on consistent arrays left them so", self.consistent);
-        println!("{} writes on damaged arrays left the same sets bad", self.damaged);
+        let Watch { writes, audits, .. } = self;
+        println!(
+            "{} writes on consistent arrays left them so, {} on others left as many sets bad",
+            writes[0], writes[1]
+        );
+        println!("{} audits found all sets zero, {} found bad ones", audits[0], audits[1]);
     }
 }
