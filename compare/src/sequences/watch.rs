@@ -24,7 +24,8 @@ impl Watch {
         self.found = settled.then_some(CONSISTENT);
     }
 
-    /// Looks at the array after a step.
+    /// Looks at the array after a step. A spoiled design may be another design, with rows in another order, by which a
+    /// write is accepted as well: then nothing follows for the sets of the given one.
     pub fn after(
         &mut self,
         step: &Step,
@@ -39,7 +40,8 @@ impl Watch {
         let accepted = answer.refusal == 0;
         let before = match step.call.kind {
             Kind::Format if accepted => Some(CONSISTENT),
-            Kind::Write if accepted => self.found,
+            Kind::Write if accepted && step.call.given.list == given.list => self.found,
+            Kind::Write if accepted => None,
             Kind::Audit if accepted => {
                 self.audits[usize::from(answer.bad > 0)] += 1;
                 return Ok(());
