@@ -1,7 +1,7 @@
--- "Refusals come exactly as tabled" (01), over the contracts of the calls themselves: 2 to 8; and an accepted format leaves a
--- consistent array with no disk marked. Assumes nothing.
+-- "Refusals come exactly as tabled" (01), over the contracts of the calls themselves: 2 to 8; and what an accepted
+-- format leaves. Assumes nothing.
 use Prim.Native.Nat.{ℕ}
-use mathlib.Core.Path.{_≡_, sym, subst, _∙_}
+use mathlib.Core.Path.{_≡_, sym, _∙_}
 use mathlib.Core.List.{List}
 use lib.ListN.{length}
 use contract.Lifetimes.{Lfts}
@@ -12,11 +12,9 @@ use Rattle.refusal.specs.Refusal.{checkedOutcome, verdict}
 use Rattle.refusal.specs.Due.{Exact}
 use Rattle.geometry.specs.declared.Geometry.{Geometry}
 use Rattle.array.specs.Array.{formattedArray, formattedMarks}
-use Rattle.array.specs.Consistent.{Consistent}
 use Rattle.array.specs.Rules.{arrayRules}
 use Rattle.array.specs.Reasons.{arrayRows}
 use Rattle.array.proofs.Kept.{kept-new}
-use Rattle.array.proofs.Formatted.{a-formatted-array-is-consistent}
 use Rattle.array.proofs.Reasons.{array-exact}
 use Rattle.array.proofs.TwoResults.{CheckAllowed, FormatAllowed}
 
@@ -39,8 +37,3 @@ module _ (κs : Lfts 3) (G : Geometry) (design array marks a m : RefT (List ℕ)
         p .1 ∙ sym (kept-new o tt (formattedArray G) (now array) (sym (p .0))),
         p .2 ∙ sym (kept-new o tt (formattedMarks G) (now marks) (sym (p .0))),
       )
-
-  pub format-is-consistent : FormatAllowed κs G design array marks Fine a m → Consistent G (now design) (now a)
-  format-is-consistent p =
-      subst (λ (x : List ℕ). Consistent G (now design) x) (sym (format-accepted p .0))
-      (a-formatted-array-is-consistent G (now design))

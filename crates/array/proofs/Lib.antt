@@ -4,7 +4,6 @@ pub mod Range
 pub mod Reasons
 pub mod Kept
 pub mod Formatting
-pub mod Formatted
 pub mod Theorems
 pub mod TwoResults
 pub mod Exact

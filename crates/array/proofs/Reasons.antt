@@ -20,12 +20,8 @@ use Rattle.geometry.specs.Geometry.{disksOf, userUnitsOf, bytesOf}
 use Rattle.sizes.specs.Sizes.{sizesRules}
 use Rattle.sizes.specs.Reasons.{sizesRows}
 use Rattle.sizes.proofs.Reasons.{sizes-fits}
-use Rattle.layout.specs.declared.Place.{Place}
-use Rattle.layout.specs.Places.{fourOf}
-use Rattle.layout.specs.Marks.{lost}
-use Rattle.layout.proofs.Theorems.{a-unit-is-lost-with-its-disk}
-use Rattle.array.specs.Rules.{arrayFits, markHigh, arrayRules, rangeRules, readRules}
-use Rattle.array.specs.Reasons.{OtherLength, LowestHigh, arrayRows, rangeRows, readRows}
+use Rattle.array.specs.Rules.{arrayFits, markHigh, arrayRules, rangeRules}
+use Rattle.array.specs.Reasons.{OtherLength, LowestHigh, arrayRows, rangeRows}
 use Rattle.array.proofs.Fits.{fits-above, fits-words, words-fits, mark-high, high-mark}
 
 module _ (G : Geometry) (bytes : ℕ) (marks : List ℕ) where
@@ -55,19 +51,6 @@ module _ (G : Geometry) (bytes : ℕ) (marks : List ℕ) where
   fit-8 : Fit (rule 8 (anyBelow (markHigh marks) (length marks)) (lowest (markHigh marks) (length marks))) (row 8 (LowestHigh marks))
   fit-8 = first-fit 8 (markHigh marks) (length marks) (λ (x : ℕ). 1 < getD marks x 0) (high-mark marks) (mark-high marks)
 
--- 12: the unit's disk has the mark 1
-fit-12 :
-    (G : Geometry) (marks : List ℕ) (q : Place)
-    → Fit (rule 12 (lost G marks q) (q .disk .0)) (row 12 (λ (p : ℕ). (p ≡ q .disk .0) × (getD marks p 0 ≡ 1)))
-fit-12 G marks q =
-    record {
-      number = refl;
-      holds = λ (e : lost G marks q ≡ true). (refl, a-unit-is-lost-with-its-disk G marks q .0 e);
-      only =
-          λ (p : ℕ) (h : (p ≡ q .disk .0) × (getD marks p 0 ≡ 1)).
-          (a-unit-is-lost-with-its-disk G marks q .1 (ap (λ (x : ℕ). getD marks x 0) (sym (h .0)) ∙ h .1), h .0);
-    }
-
 module _ (G : Geometry) (d : List ℕ) (bytes : ℕ) (marks : List ℕ) where
   pub array-rows-fit : Fits (arrayRules G d bytes marks) (arrayRows G d bytes marks)
   unfolding arrayRules
@@ -86,19 +69,3 @@ module _ (G : Geometry) (d : List ℕ) (bytes : ℕ) (marks : List ℕ) where
       zero-fit 10 (leb (userUnitsOf G) m) (userUnitsOf G ≤ m) (leb-true (userUnitsOf G) m) (le-leb (userUnitsOf G) m),
       λ _. (zero-fit 11 (ltb (G .u) (o + n)) (G .u < o + n) (ltb-true (G .u) (o + n)) (lt-ltb (G .u) (o + n)), λ _. f),
     )
-
-    abbrev twelfth : Rule
-    twelfth = rule 12 (lost G marks (fourOf G d m .user)) (fourOf G d m .user .disk .0)
-
-    abbrev in-words : Row
-    in-words = row 12 (λ (p : ℕ). (p ≡ fourOf G d m .user .disk .0) × (getD marks p 0 ≡ 1))
-
-    pub read-rows-fit : Fits (readRules G d bytes marks m o n) (readRows G d bytes marks m o n)
-    unfolding readRules
-    read-rows-fit =
-        fits-append (arrayRules G d bytes marks) _ (arrayRows G d bytes marks) _ array-rows-fit
-        (λ _. range-rows-fit (twelfth ∷ []) (in-words ∷ []) (fit-12 G marks (fourOf G d m .user), λ _. tt))
-
-    -- the read: 2 to 8 and 10 to 12
-    pub read-exact : {A : Type 0} (a : A) → Exact (readRows G d bytes marks m o n) (answer (readRules G d bytes marks m o n) a)
-    read-exact a = exact (readRules G d bytes marks m o n) (readRows G d bytes marks m o n) a read-rows-fit

@@ -1,7 +1,6 @@
 -- The statements of specs/Theorems.antt hold. Assumes nothing.
 use Rattle.array.specs.Theorems.{Each-unit-lies-in-the-array, No-two-units-share-a-byte}
 use Rattle.array.proofs.Starts.{cell-start-in, cells-apart}
-pub use Rattle.array.proofs.Formatted.{a-formatted-array-is-consistent}
 
 pub each-unit-lies-in-the-array : Each-unit-lies-in-the-array
 each-unit-lies-in-the-array = cell-start-in

@@ -1,4 +1,4 @@
--- 01, "Refusal numbers", rows 7, 8 and 10 to 12 in words, and the rows of the calls on the array. Assumes nothing.
+-- 01, "Refusal numbers", rows 7, 8, 10 and 11 in words. Assumes nothing.
 use Prim.Native.Nat.{ℕ, _+_, _<_, _≤_}
 use mathlib.Core.Path.{_≡_}
 use mathlib.Core.Logic.{_⊎_}
@@ -8,7 +8,6 @@ use Rattle.refusal.specs.Due.{Row, row}
 use Rattle.geometry.specs.declared.Geometry.{Geometry}
 use Rattle.geometry.specs.Geometry.{disksOf, userUnitsOf, bytesOf}
 use Rattle.sizes.specs.Reasons.{sizesRows}
-use Rattle.layout.specs.Places.{fourOf}
 
 -- "array or marks of another length, or array above the limit": "at most 1,073,741,824"
 abbrev pub OtherLength : Geometry → (bytes : ℕ) → (marks : List ℕ) → Type 0
@@ -30,10 +29,3 @@ arrayRows G d bytes marks =
 abbrev pub rangeRows : Geometry → (m o n : ℕ) → List Row
 rangeRows G m o n =
     row 10 (λ (p : ℕ). (p ≡ 0) × (userUnitsOf G ≤ m)) ∷ row 11 (λ (p : ℕ). (p ≡ 0) × (G .u < o + n)) ∷ []
-
--- rows of the read: "data disk marked", at that disk
-abbrev pub readRows : Geometry → List ℕ → (bytes : ℕ) → (marks : List ℕ) → (m o n : ℕ) → List Row
-readRows G d bytes marks m o n =
-    arrayRows G d bytes marks
-    ++ (rangeRows G m o n
-    ++ (row 12 (λ (p : ℕ). (p ≡ fourOf G d m .user .disk .0) × (getD marks p 0 ≡ 1)) ∷ []))

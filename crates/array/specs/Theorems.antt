@@ -8,8 +8,7 @@ use Rattle.design.specs.Design.{Laid}
 use Rattle.cells.specs.declared.Cell.{Cell}
 use Rattle.cells.specs.Ranges.{CellIn}
 use Rattle.leaves.specs.Bytes.{Apart}
-use Rattle.array.specs.Array.{cellStart, formattedArray}
-use Rattle.array.specs.Consistent.{Consistent}
+use Rattle.array.specs.Array.{cellStart}
 
 -- "The buffer holds disk 0 whole, then disk 1, and so on: v·g·r·g·u bytes": each unit lies in it
 abbrev pub Each-unit-lies-in-the-array : Type 0
@@ -21,7 +20,3 @@ abbrev pub No-two-units-share-a-byte : Type 0
 No-two-units-share-a-byte =
     (G : Geometry) (d : List ℕ) → Laid G d → (x y : Cell) → CellIn G x → CellIn G y → (x ≡ y → ⊥) →
     Apart (cellStart G d x) (G .u) (cellStart G d y) (G .u)
-
--- "all array bytes become zero": every set XORs to zero
-abbrev pub A-formatted-array-is-consistent : Type 0
-A-formatted-array-is-consistent = (G : Geometry) (d : List ℕ) → Consistent G d (formattedArray G)

@@ -17,11 +17,12 @@ use Rattle.layout.specs.Ranges.{PlaceIn}
 use Rattle.layout.specs.Marks.{lost}
 use Rattle.layout.proofs.Places.{place-in}
 use Rattle.leaves.specs.Bytes.{run}
-use Rattle.array.specs.Array.{startOf, cellStart, readOf}
-use Rattle.array.specs.Rules.{arrayRules, rangeRules, readRules}
+use Rattle.array.specs.Array.{startOf, cellStart}
+use Rattle.array.specs.Rules.{arrayRules, rangeRules}
 use Rattle.array.proofs.Fits.{Ready, ready}
 use Rattle.array.proofs.Range.{Ranged, ranged}
 use Rattle.array.proofs.Kept.{kept-old, kept-new}
+use Rattle.reading.specs.Reading.{readOf, readRules}
 
 -- a part of the array as a run of it
 pub part-run : (a : List ℕ) (p n : ℕ) → midOf p (p + n - p) a ≡ run a p n

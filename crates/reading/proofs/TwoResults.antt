@@ -13,12 +13,11 @@ use Rattle.refusal.specs.Due.{Exact}
 use Rattle.refusal.proofs.Same.{same-checked}
 use Rattle.geometry.specs.declared.Geometry.{Geometry}
 use Rattle.geometry.specs.declared.UserUnit.{UserUnit}
-use Rattle.array.specs.Array.{readOf}
-use Rattle.array.specs.Rules.{readRules}
-use Rattle.array.specs.Reasons.{readRows}
 use Rattle.array.proofs.Kept.{kept-new}
-use Rattle.array.proofs.Reasons.{read-exact}
 use Rattle.array.proofs.TwoResults.{some-checked}
+use Rattle.reading.specs.Reading.{readOf, readRules}
+use Rattle.reading.specs.Reasons.{readRows}
+use Rattle.reading.proofs.Reasons.{read-exact}
 use Rattle.reading.proofs.read.Reads as read
 
 module _ (κs : Lfts 4) (G : Geometry) (design array marks : RefT (List ℕ)) (n : UserUnit) (offset : ℕ) (out : RefT (List ℕ)) where

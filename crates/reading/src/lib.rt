@@ -11,8 +11,8 @@ ghost use Rattle.refusal.specs.Refusal.{verdict, kept, checkedOutcome};
 ghost use Rattle.geometry.specs.Geometry.{Sound, bytesOf};
 ghost use Rattle.layout.specs.Ranges.{PlaceIn};
 ghost use Rattle.leaves.specs.Bytes.{run};
-ghost use Rattle.array.specs.Array.{startOf, readOf};
-ghost use Rattle.array.specs.Rules.{readRules};
+ghost use Rattle.array.specs.Array.{startOf};
+ghost use Rattle.reading.specs.Reading.{readOf, readRules};
 
 // Copies a range of the unit at a place.
 fn copy_range(geometry: Geometry, array: &[u8], place: Place, offset: u64, out: &mut [u8])

@@ -2,16 +2,15 @@
 -- Assumes nothing.
 use Prim.Native.Nat.{ℕ, _-_, _*_, _/_, _%_, _<_}
 use mathlib.Core.Path.{_≡_}
-use mathlib.Core.Bool.{Bool, true, not, cond}
+use mathlib.Core.Bool.{Bool, true, cond}
 use mathlib.Core.List.{List}
 use lib.Dec.{ltb}
-use Rattle.counting.specs.Counting.{countBelow, lowest}
 use Rattle.counting.specs.Lists.{listOf}
 use Rattle.geometry.specs.declared.Geometry.{Geometry}
 use Rattle.geometry.specs.Geometry.{tupleSetsOf, setsOf}
 use Rattle.cells.specs.Sets.{outerMember, innerMember}
 use Rattle.leaves.specs.Bytes.{zeroSum}
 use Rattle.array.specs.Array.{cellStart}
 
 -- where the units of the outer set (t,i,c) begin, by position, and those of the inner set (t,l,j), by row
 unfoldable pub outerStarts : Geometry → List ℕ → (t i c : ℕ) → List ℕ
@@ -37,12 +36,3 @@ setZero G d a s = zeroSum a (setStarts G d s) (G .u)
 -- every set XORs to zero
 abbrev pub Consistent : Geometry → List ℕ → List ℕ → Type 0
 Consistent G d a = (s : ℕ) → s < setsOf G → setZero G d a s ≡ true
-
--- "how many sets don't XOR to zero", of the first n
-unfoldable pub badBelow : Geometry → List ℕ → List ℕ → (n : ℕ) → ℕ
-badBelow G d a n = countBelow (λ (s : ℕ). not (setZero G d a s)) n
-
--- "and the lowest such number, 0 if none", of the first n
-unfoldable pub lowestBad : Geometry → List ℕ → List ℕ → (n : ℕ) → ℕ
-lowestBad G d a n =
-    cond (ltb (lowest (λ (s : ℕ). not (setZero G d a s)) n) n) (lowest (λ (s : ℕ). not (setZero G d a s)) n) 0

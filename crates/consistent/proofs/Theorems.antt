@@ -1,0 +1,2 @@
+-- The statements of specs/Theorems.antt hold. Assumes nothing.
+pub use Rattle.consistent.proofs.Formatted.{a-formatted-array-is-consistent}

@@ -1,0 +1,1 @@
+// What "consistent" means, and what follows from it: definitions and theorems only.
