@@ -1,20 +1,18 @@
 -- The answers of the read, case by case. Assumes nothing.
 use Prim.Native.Nat.{ℕ, _+_, _-_, _<_}
 use mathlib.Core.Path.{_≡_, sym, ap, subst, _∙_}
-use mathlib.Core.Bool.{true, false}
 use mathlib.Core.List.{List, [], _∷_, _++_}
 use native.Mathlib.Omega.{arith}
 use lib.ListN.{length}
 use borrow.Rule.Slice.PartMut.{midOf}
-use Rattle.refusal.specs.Refusal.{Rule, rule, Outcome, refused, accepted, verdict, kept}
-use Rattle.refusal.proofs.Answer.{first, next, skip, stop}
+use Rattle.refusal.specs.Refusal.{Rule, Outcome, refused, accepted, verdict, kept}
+use Rattle.refusal.proofs.Answer.{skip, stop}
 use Rattle.geometry.specs.declared.Geometry.{Geometry}
 use Rattle.cells.specs.Roles.{userCell}
 use Rattle.cells.proofs.Roles.{user-cell-in}
 use Rattle.layout.specs.declared.Place.{Place}
 use Rattle.layout.specs.Places.{placeOf, fourOf}
 use Rattle.layout.specs.Ranges.{PlaceIn}
-use Rattle.layout.specs.Marks.{lost}
 use Rattle.layout.proofs.Places.{place-in}
 use Rattle.leaves.specs.Bytes.{run}
 use Rattle.array.specs.Array.{startOf, cellStart}
@@ -22,7 +20,7 @@ use Rattle.array.specs.Rules.{arrayRules, rangeRules}
 use Rattle.array.proofs.Fits.{Ready, ready}
 use Rattle.array.proofs.Range.{Ranged, ranged}
 use Rattle.array.proofs.Kept.{kept-old, kept-new}
-use Rattle.reading.specs.Reading.{readOf, readRules}
+use Rattle.reading.specs.Reading.{readOf, markRule, readRules}
 
 -- a part of the array as a run of it
 pub part-run : (a : List ℕ) (p n : ℕ) → midOf p (p + n - p) a ≡ run a p n
@@ -41,7 +39,7 @@ module _ (G : Geometry) (d a marks : List ℕ) (m o : ℕ) (out : List ℕ) wher
   refuses n p e = (sym e, kept-old answered n p (readOf G d a m o (length out)) out e)
 
   abbrev twelfth : Rule
-  twelfth = rule 12 (lost G marks (fourOf G d m .user)) (fourOf G d m .user .disk .0)
+  twelfth = markRule G marks (fourOf G d m .user)
 
   pub array-refuses : (n p : ℕ) → verdict (arrayRules G d (length a) marks) ≡ refused n p → Read (refused n p) out
   unfolding readRules
@@ -67,17 +65,21 @@ module _ (G : Geometry) (d a marks : List ℕ) (m o : ℕ) (out : List ℕ) wher
       pub user-disk-in : q .disk .0 < length marks
       user-disk-in = omega (arith, user-place-in .disk, ready G d (length a) marks checked .long)
 
-      pub lost-refuses : lost G marks q ≡ true → Read (refused 12 (q .disk .0)) out
-      unfolding fourOf
-      lost-refuses e =
-          refuses 12 (q .disk .0)
-          (last ∙ first twelfth [] tt (ap (lost G marks) (sym is) ∙ e) ∙ ap (λ (x : Place). refused 12 (x .disk .0)) (sym is))
+      -- the rule of the place in hand is the read's
+      abbrev marked : Outcome (Unit {0})
+      marked = verdict (markRule G marks q ∷ [])
 
-      pub goes :
-          lost G marks q ≡ false → (b : List ℕ) → b ≡ run a (startOf G q + o) (length out) → Read (accepted tt) b
-      unfolding fourOf readOf cellStart
+      by-mark : answered ≡ marked
+      unfolding fourOf
+      by-mark = last ∙ ap (λ (x : Place). verdict (markRule G marks x ∷ [])) (sym is)
+
+      pub mark-refuses : (n p : ℕ) → marked ≡ refused n p → Read (refused n p) out
+      mark-refuses n p e = refuses n p (by-mark ∙ e)
+
+      pub goes : marked ≡ accepted tt → (b : List ℕ) → b ≡ run a (startOf G q + o) (length out) → Read (accepted tt) b
+      unfolding readOf cellStart
       goes e b h =
-          let w = last ∙ next twelfth [] tt (ap (lost G marks) (sym is) ∙ e) in (
+          let w = by-mark ∙ e in (
             sym w,
             h ∙ ap (λ (x : Place). run a (startOf G x + o) (length out)) is
                 ∙ kept-new answered tt (readOf G d a m o (length out)) out w,

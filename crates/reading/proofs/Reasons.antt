@@ -4,7 +4,7 @@ use mathlib.Core.Path.{_≡_, refl, sym, ap, _∙_}
 use mathlib.Core.Bool.{true}
 use mathlib.Core.List.{List, [], _∷_}
 use lib.ListN.{getD}
-use Rattle.refusal.specs.Refusal.{Rule, rule, answer}
+use Rattle.refusal.specs.Refusal.{Rule, answer}
 use Rattle.refusal.specs.Due.{Row, row, Exact}
 use Rattle.refusal.proofs.Exactness.{Fit, Fits, fits-append, exact}
 use Rattle.geometry.specs.declared.Geometry.{Geometry}
@@ -15,13 +15,13 @@ use Rattle.layout.proofs.Theorems.{a-unit-is-lost-with-its-disk}
 use Rattle.array.specs.Rules.{arrayRules}
 use Rattle.array.specs.Reasons.{arrayRows}
 use Rattle.array.proofs.Reasons.{array-rows-fit, range-rows-fit}
-use Rattle.reading.specs.Reading.{readRules}
+use Rattle.reading.specs.Reading.{markRule, readRules}
 use Rattle.reading.specs.Reasons.{readRows}
 
 -- 12: the unit's disk has the mark 1
 fit-12 :
     (G : Geometry) (marks : List ℕ) (q : Place)
-    → Fit (rule 12 (lost G marks q) (q .disk .0)) (row 12 (λ (p : ℕ). (p ≡ q .disk .0) × (getD marks p 0 ≡ 1)))
+    → Fit (markRule G marks q) (row 12 (λ (p : ℕ). (p ≡ q .disk .0) × (getD marks p 0 ≡ 1)))
 fit-12 G marks q =
     record {
       number = refl;
@@ -33,7 +33,7 @@ fit-12 G marks q =
 
 module _ (G : Geometry) (d : List ℕ) (bytes : ℕ) (marks : List ℕ) (m o n : ℕ) where
   abbrev twelfth : Rule
-  twelfth = rule 12 (lost G marks (fourOf G d m .user)) (fourOf G d m .user .disk .0)
+  twelfth = markRule G marks (fourOf G d m .user)
 
   abbrev in-words : Row
   in-words = row 12 (λ (p : ℕ). (p ≡ fourOf G d m .user .disk .0) × (getD marks p 0 ≡ 1))

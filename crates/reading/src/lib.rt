@@ -4,15 +4,16 @@ use geometry::UserUnit;
 use layout::Place;
 use refusal::Checked;
 use refusal::Refusal;
-ghost use Prim.Native.Nat.{_+_, _≤_};
+ghost use Prim.Native.Nat.{_+_, _≤_, _<_};
 ghost use mathlib.Core.Path.{_≡_};
+ghost use mathlib.Core.List.{[], _∷_};
 ghost use lib.ListN.{length};
 ghost use Rattle.refusal.specs.Refusal.{verdict, kept, checkedOutcome};
 ghost use Rattle.geometry.specs.Geometry.{Sound, bytesOf};
 ghost use Rattle.layout.specs.Ranges.{PlaceIn};
 ghost use Rattle.leaves.specs.Bytes.{run};
 ghost use Rattle.array.specs.Array.{startOf};
-ghost use Rattle.reading.specs.Reading.{readOf, readRules};
+ghost use Rattle.reading.specs.Reading.{readOf, markRule, readRules};
 
 // Copies a range of the unit at a place.
 fn copy_range(geometry: Geometry, array: &[u8], place: Place, offset: u64, out: &mut [u8])
@@ -22,6 +23,20 @@ fn copy_range(geometry: Geometry, array: &[u8], place: Place, offset: u64, out: 
     let start = array::start_of(geometry, place) + offset as usize;
     let end = start + out.len();
     leaves::copy_into(out, &array[start..end]);
+}
+
+// Refusal 12: the disk of the place is marked.
+fn check_mark(geometry: Geometry, marks: &[u8], place: Place) -> Checked
+    requires { ⌜ place .disk .0 < length (now marks) ⌝ }
+    ensures { λ r. ⌜ checkedOutcome r ≡ verdict (markRule geometry (now (marks .entry)) place ∷ []) ⌝ }
+{
+    if array::is_lost(geometry, marks, place) {
+        return Checked::Refused(Refusal {
+            number: 12,
+            place: place.disk.0,
+        });
+    }
+    Checked::Fine
 }
 
 // "Read: a byte range of one user unit into a lent buffer whose length is the range's length", or the refusal: 2 to 8, 10 to 12.
@@ -51,11 +66,12 @@ pub fn read(
         Checked::Fine => {}
     }
     let place = layout::place_of(geometry, design, cells::user_cell(geometry, n));
-    if array::is_lost(geometry, marks, place) {
-        return Checked::Refused(Refusal {
-            number: 12,
-            place: place.disk.0,
-        });
+    let marked = check_mark(geometry, marks, place);
+    match marked {
+        Checked::Refused(x) => {
+            return Checked::Refused(x);
+        }
+        Checked::Fine => {}
     }
     copy_range(geometry, array, place, offset, out);
     Checked::Fine

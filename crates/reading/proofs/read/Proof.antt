@@ -7,7 +7,7 @@ use Rattle.layout.specs.Places.{placeOf}
 use Rattle.array.specs.Rules.{arrayRules, rangeRules}
 use Rattle.array.proofs.Fits.{Ready, ready}
 use Rattle.array.proofs.Range.{Ranged, ranged}
-use Rattle.reading.proofs.Answers.{array-refuses, range-refuses, lost-refuses, goes, user-place-in, user-disk-in}
+use Rattle.reading.proofs.Answers.{array-refuses, range-refuses, mark-refuses, goes, user-place-in, user-disk-in}
 use Rattle.reading.proofs.read.Statement.{statement}
 use Rattle.reading.proofs.read.Tie as tie
 
@@ -69,27 +69,33 @@ user-cell-requires c κs = (checked-ready (c .before .before .before) .laid .sou
 place-of-requires : tie.Need-place-of-requires
 place-of-requires c κs = (checked-ready (c .before .before .before .before) .laid, c .user-cell .ensures .1)
 
-is-lost-requires : tie.Need-is-lost-requires
-is-lost-requires c κs =
+check-mark-requires : tie.Need-check-mark-requires
+check-mark-requires c κs =
     let a = c .before .before .before .before .before .before .before .before .before .before .before .before .args in
     user-disk-in (a .geometry) (a .design .now) (a .array .now) (a .marks .now) (a .n .0) (a .offset) (a .out .now) (checked (c .before .before .before .before .before)) (inside (c .before .before)) _
     (c .place-of .ensures ∙ ap (placeOf (a .geometry) (a .design .now)) (c .before .user-cell .ensures .0))
 
+enum-known-marked : tie.Need-enum-known-marked
+enum-known-marked c = search needs
+
 returns-3 : tie.Need-returns-3
 returns-3 c =
-    let a = c .before .before .before .before .before .before .before .before .before .before .before .before .before .before .args in
-    lost-refuses (a .geometry) (a .design .now) (a .array .now) (a .marks .now) (a .n .0) (a .offset) (a .out .now) (checked (c .before .before .before .before .before .before .before)) (inside (c .before .before .before .before)) _
-    (c .before .before .place-of .ensures ∙ ap (placeOf (a .geometry) (a .design .now)) (c .before .before .before .user-cell .ensures .0))
-    (sym (c .before .is-lost .ensures) ∙ c .if1 .taken)
+    let a = c .before .before .before .before .before .before .before .before .before .before .before .before .before .before .before .before .args in
+    mark-refuses (a .geometry) (a .design .now) (a .array .now) (a .marks .now) (a .n .0) (a .offset) (a .out .now) (checked (c .before .before .before .before .before .before .before .before .before)) (inside (c .before .before .before .before .before .before)) _
+    (c .before .before .before .before .place-of .ensures ∙ ap (placeOf (a .geometry) (a .design .now)) (c .before .before .before .before .before .user-cell .ensures .0))
+    _ _ (sym (c .before .before .before .check-mark .ensures) ∙ ap checkedOutcome (c .before .marked .given .1))
+
+enum-told-3 : tie.Need-enum-told-3
+enum-told-3 c = search needs
 
 copy-range-requires : tie.Need-copy-range-requires
 copy-range-requires c κs =
-    let a = c .before .before .before .before .before .before .before .before .before .before .before .before .before .before .before .args in
-    let h = checked-ready (c .before .before .before .before .before .before .before .before) in (
+    let a = c .before .before .before .before .before .before .before .before .before .before .before .before .before .before .before .before .args in
+    let h = checked-ready (c .before .before .before .before .before .before .before .before .before) in (
       h .laid .sound,
-      user-place-in (a .geometry) (a .design .now) (a .array .now) (a .marks .now) (a .n .0) (a .offset) (a .out .now) (checked (c .before .before .before .before .before .before .before .before)) (inside (c .before .before .before .before .before)) _
-          (c .before .before .before .place-of .ensures ∙ ap (placeOf (a .geometry) (a .design .now)) (c .before .before .before .before .user-cell .ensures .0)),
-      inside-ranged (c .before .before .before .before .before) .inside,
+      user-place-in (a .geometry) (a .design .now) (a .array .now) (a .marks .now) (a .n .0) (a .offset) (a .out .now) (checked (c .before .before .before .before .before .before .before .before .before)) (inside (c .before .before .before .before .before .before)) _
+          (c .before .before .before .before .place-of .ensures ∙ ap (placeOf (a .geometry) (a .design .now)) (c .before .before .before .before .before .user-cell .ensures .0)),
+      inside-ranged (c .before .before .before .before .before .before) .inside,
       h .whole,
     )
 
@@ -98,10 +104,10 @@ same-length c = search needs
 
 returns-4 : tie.Need-returns-4
 returns-4 c =
-    let a = c .before .before .before .before .before .before .before .before .before .before .before .before .before .before .before .before .before .before .args in
-    goes (a .geometry) (a .design .now) (a .array .now) (a .marks .now) (a .n .0) (a .offset) (a .out .now) (checked (c .before .before .before .before .before .before .before .before .before .before .before)) (inside (c .before .before .before .before .before .before .before .before)) _
-    (c .before .before .before .before .before .before .place-of .ensures ∙ ap (placeOf (a .geometry) (a .design .now)) (c .before .before .before .before .before .before .before .user-cell .ensures .0))
-    (sym (c .before .before .before .before .before .is-lost .ensures) ∙ c .before .before .before .before .if1 .left) _ (c .before .before .copy-range .ensures)
+    let a = c .before .before .before .before .before .before .before .before .before .before .before .before .before .before .before .before .before .before .before .args in
+    goes (a .geometry) (a .design .now) (a .array .now) (a .marks .now) (a .n .0) (a .offset) (a .out .now) (checked (c .before .before .before .before .before .before .before .before .before .before .before .before)) (inside (c .before .before .before .before .before .before .before .before .before)) _
+    (c .before .before .before .before .before .before .before .place-of .ensures ∙ ap (placeOf (a .geometry) (a .design .now)) (c .before .before .before .before .before .before .before .before .user-cell .ensures .0))
+    (sym (c .before .before .before .before .before .before .check-mark .ensures) ∙ ap checkedOutcome (c .before .before .before .before .enum-told3 .given .1)) _ (c .before .before .copy-range .ensures)
 
 pub read-spec : {M : Type 1} → statement M
 read-spec =
@@ -117,8 +123,10 @@ read-spec =
     enum-told-2
     user-cell-requires
     place-of-requires
-    is-lost-requires
+    check-mark-requires
+    enum-known-marked
     returns-3
+    enum-told-3
     copy-range-requires
     same-length
     returns-4)
