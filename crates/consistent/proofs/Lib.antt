@@ -1,2 +1,3 @@
 pub mod Formatted
+pub mod Numbers
 pub mod Theorems
