@@ -1,3 +1,4 @@
 pub mod Formatted
 pub mod Numbers
+pub mod Parities
 pub mod Theorems
