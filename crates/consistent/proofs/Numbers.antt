@@ -1,6 +1,6 @@
 -- The sets by their numbers are the labels' and the diagonals' sets; their units lie in the array and apart. Assumes nothing.
-use Prim.Native.Nat.{ℕ, _+_, _-_, _*_, _/_, _%_, _<_, _≤_}
-use mathlib.Core.Path.{_≡_, refl, sym, ap, ap₂, subst⁻¹, _∙_}
+use Prim.Native.Nat.{ℕ, _+_, _-_, _*_, _<_, _≤_}
+use mathlib.Core.Path.{_≡_, ap, ap₂, subst⁻¹, _∙_}
 use mathlib.Core.Logic.{inl, inr}
 use mathlib.Core.List.{List}
 use native.Mathlib.Omega.{arith}
@@ -17,7 +17,7 @@ use Rattle.cells.specs.Ranges.{OuterIn, InnerIn}
 use Rattle.cells.specs.Theorems.{ASet}
 use Rattle.cells.proofs.Sets.{outer-member-in, inner-member-in}
 use Rattle.cells.proofs.Theorems.{sets-are-numbered}
-use Rattle.leaves.specs.Bytes.{Apart, Inside, Spread}
+use Rattle.leaves.specs.Bytes.{Inside, Spread}
 use Rattle.array.specs.Array.{cellStart}
 use Rattle.array.proofs.Theorems.{each-unit-lies-in-the-array, no-two-units-share-a-byte}
 use Rattle.consistent.specs.Consistent.{outerStarts, innerStarts, tupleSetStarts, setStarts}

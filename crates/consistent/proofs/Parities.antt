@@ -1,5 +1,5 @@
 -- Every set by its number XORs to zero exactly if both parities hold for every label and every diagonal. Assumes nothing.
-use Prim.Native.Nat.{ℕ, _<_}
+use Prim.Native.Nat.{ℕ}
 use mathlib.Core.Path.{_≡_, subst}
 use mathlib.Core.Bool.{true}
 use mathlib.Core.List.{List}
