@@ -23,6 +23,7 @@ use Rattle.array.specs.Array.{cellStart}
 use Rattle.array.proofs.Theorems.{each-unit-lies-in-the-array}
 use Rattle.consistent.specs.Consistent.{outerStarts, Consistent}
 use Rattle.consistent.specs.Theorems.{At-k-2-the-outer-parity-is-a-copy}
+use Rattle.consistent.proofs.Numbers.{cellStarts}
 use Rattle.consistent.proofs.Parities.{both-parities}
 
 -- of two runs that XOR to zero, each is the other
@@ -52,7 +53,7 @@ module _ (G : Geometry) (d : List ℕ) (L : Laid G d) (two : G .k ≡ 2) (a : Li
   unfolding outerStarts
   positions-same t i e v l m p q n j h =
       two-same a (λ (x : ℕ). cellStart G d (outerMember G t i e x)) j
-      (subst (λ (k : ℕ). sumAt a (listOf (λ (x : ℕ). cellStart G d (outerMember G t i e x)) k) j ≡ 0) two
+      (subst (λ (k : ℕ). sumAt a (cellStarts G d (outerMember G t i e) k) j ≡ 0) two
       (both-parities G (L .sound) d a c .outer t i e v j h)) l m (omega arith) (omega arith) n
 
 pub at-k-2-the-outer-parity-is-a-copy : At-k-2-the-outer-parity-is-a-copy

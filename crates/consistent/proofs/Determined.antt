@@ -15,15 +15,16 @@ use Rattle.cells.specs.declared.Role.{Role}
 use Rattle.cells.specs.Cells.{cell, labelOf, diagonalOf, parityPosition}
 use Rattle.cells.specs.Sets.{outerMember, innerMember}
 use Rattle.cells.specs.Roles.{userNumber, userCell, cellOf}
-use Rattle.cells.specs.Ranges.{CellIn, RoleIn, OuterIn, InnerIn}
+use Rattle.cells.specs.Ranges.{CellIn, RoleIn}
 use Rattle.cells.proofs.Sets.{outer-member-in, inner-member-in, label-in, label-column, diagonal-in, diagonal-column}
 use Rattle.cells.proofs.Roles.{LastRow, AtParity, dataRegion, role-user}
 use Rattle.cells.proofs.Theorems.{cells-and-roles-are-inverse}
+use Rattle.leaves.specs.Bytes.{sumAt}
 use Rattle.leaves.proofs.Runs.{at-run}
 use Rattle.array.specs.Array.{cellStart}
 use Rattle.consistent.specs.Consistent.{outerStarts, innerStarts}
 use Rattle.consistent.specs.Theorems.{BothParities, A-consistent-array-is-determined-by-its-user-bytes}
-use Rattle.consistent.proofs.Numbers.{outer-length, inner-length, outer-start-at, inner-start-at}
+use Rattle.consistent.proofs.Numbers.{cellStarts, starts-length, start-at, start-low}
 use Rattle.consistent.proofs.Parities.{both-parities}
 use Rattle.consistent.proofs.Others.{all-but-one}
 use Rattle.consistent.proofs.Units.{InUnit, each-byte-in-a-unit}
@@ -50,28 +51,17 @@ module _ (G : Geometry) (d : List ℕ) (L : Laid G d) (a b : List ℕ) where
   abbrev Agree : Cell → Type 0
   Agree x = (j : ℕ) → j < G .u → getD a (cellStart G d x + j) 0 ≡ getD b (cellStart G d x + j) 0
 
-  -- the units of an outer set but one give that one, and so do those of an inner set
-  outer-agrees :
-      BothParities G d a → BothParities G d b → (t i c l : ℕ) → OuterIn G t i c → l < G .k
-      → ((m : ℕ) → m < G .k → (m ≡ l → ⊥) → Agree (outerMember G t i c m)) → Agree (outerMember G t i c l)
-  outer-agrees p q t i c l v h e j low =
-      rw (outer-start-at G d t i c l h) at
-      (all-but-one a b j (outerStarts G d t i c) l (omega (arith, outer-length G d t i c))
-      (λ (m : ℕ) (k : m < length (outerStarts G d t i c)) (n : m ≡ l → ⊥).
-      let r : m < G .k = omega (arith, outer-length G d t i c) in
-      rw (outer-start-at G d t i c m r) (e m r n j low))
-      (p .outer t i c v j low ∙ sym (q .outer t i c v j low)))
-
-  inner-agrees :
-      BothParities G d a → BothParities G d b → (t l j i : ℕ) → InnerIn G t l j → i < G .g
-      → ((m : ℕ) → m < G .g → (m ≡ i → ⊥) → Agree (innerMember G t l j m)) → Agree (innerMember G t l j i)
-  inner-agrees p q t l j i v h e o low =
-      rw (inner-start-at G d t l j i h) at
-      (all-but-one a b o (innerStarts G d t l j) i (omega (arith, inner-length G d t l j))
-      (λ (m : ℕ) (k : m < length (innerStarts G d t l j)) (n : m ≡ i → ⊥).
-      let r : m < G .g = omega (arith, inner-length G d t l j) in
-      rw (inner-start-at G d t l j m r) (e m r n o low))
-      (p .inner t l j v o low ∙ sym (q .inner t l j v o low)))
+  -- the units of a set but one give that one
+  one-agrees :
+      (f : ℕ → Cell) (n q : ℕ) → q < n
+      → ((j : ℕ) → j < G .u → sumAt a (cellStarts G d f n) j ≡ sumAt b (cellStarts G d f n) j)
+      → ((m : ℕ) → m < n → (m ≡ q → ⊥) → Agree (f m)) → Agree (f q)
+  one-agrees f n q h s e j low =
+      rw (start-at G d f n q h) at
+      (all-but-one a b j (cellStarts G d f n) q (omega (arith, starts-length G d f n))
+      (λ (m : ℕ) (k : m < length (cellStarts G d f n)) (ne : m ≡ q → ⊥).
+      let r : m < n = start-low G d f n m k in
+      rw (start-at G d f n m r) (e m r ne j low)) (s j low))
 
   module _
       (p : BothParities G d a) (q : BothParities G d b) (same : (m : ℕ) → m < userUnitsOf G → Agree (userCell G m)) where
@@ -80,13 +70,17 @@ module _ (G : Geometry) (d : List ℕ) (L : Laid G d) (a b : List ℕ) where
 
     -- the other units of an outer parity's set are user units
     parity-agrees : (x : Cell) → CellIn G x → ¬ LastRow G x → AtParity G x → Agree x
+    unfolding outerStarts
     parity-agrees x h n e =
+        let t : ℕ = x .tuple .0 in
+        let c : ℕ = labelOf G x in
         let v = label-in G (L .sound) x h (omega arith) in
-        subst Agree (ap (cell (x .tuple .0) (x .position) (x .row)) (label-column G (L .sound) x h))
-        (outer-agrees p q (x .tuple .0) (x .row) (labelOf G x) (x .position) v (h .position)
+        subst Agree (ap (cell t (x .position) (x .row)) (label-column G (L .sound) x h))
+        (one-agrees (outerMember G t (x .row) c) (G .k) (x .position) (h .position)
+        (λ j low. p .outer t (x .row) c v j low ∙ sym (q .outer t (x .row) c v j low))
         (λ m r ne.
-        data-agrees (outerMember G (x .tuple .0) (x .row) (labelOf G x) m)
-        (outer-member-in G (L .sound) (x .tuple .0) (x .row) (labelOf G x) m v r) n (λ f. ne (f ∙ sym e))))
+        data-agrees (outerMember G t (x .row) c m) (outer-member-in G (L .sound) t (x .row) c m v r) n
+        (λ f. ne (f ∙ sym e))))
 
     labelled-agrees : (x : Cell) → CellIn G x → ¬ LastRow G x → Agree x
     labelled-agrees x h n = go (ℕ-discrete (x .position) (parityPosition G (x .tuple .0)))
@@ -97,13 +91,17 @@ module _ (G : Geometry) (d : List ℕ) (L : Laid G d) (a b : List ℕ) where
 
     -- the other units of an inner parity's set are in other rows
     last-agrees : (x : Cell) → CellIn G x → LastRow G x → Agree x
+    unfolding innerStarts
     last-agrees x h e =
+        let t : ℕ = x .tuple .0 in
+        let j : ℕ = diagonalOf G x in
         let v = diagonal-in G (L .sound) x h in
-        subst Agree (ap (cell (x .tuple .0) (x .position) (x .row)) (diagonal-column G (L .sound) x h))
-        (inner-agrees p q (x .tuple .0) (x .position) (diagonalOf G x) (x .row) v (h .row)
+        subst Agree (ap (cell t (x .position) (x .row)) (diagonal-column G (L .sound) x h))
+        (one-agrees (innerMember G t (x .position) j) (G .g) (x .row) (h .row)
+        (λ o low. p .inner t (x .position) j v o low ∙ sym (q .inner t (x .position) j v o low))
         (λ m r ne.
-        labelled-agrees (innerMember G (x .tuple .0) (x .position) (diagonalOf G x) m)
-        (inner-member-in G (L .sound) (x .tuple .0) (x .position) (diagonalOf G x) m v r) (λ f. ne (f ∙ sym e))))
+        labelled-agrees (innerMember G t (x .position) j m) (inner-member-in G (L .sound) t (x .position) j m v r)
+        (λ f. ne (f ∙ sym e))))
 
     cell-agrees : (x : Cell) → CellIn G x → Agree x
     cell-agrees x h = go (ℕ-discrete (x .row) (G .g - 1))

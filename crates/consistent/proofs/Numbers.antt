@@ -7,13 +7,14 @@ use native.Mathlib.Omega.{arith}
 use lib.Arith.{digits-lt, digits-div, digits-mod}
 use lib.ListN.{getD, length}
 use borrow.Author.Tests.{lt-ltb, le-ltb}
+use Rattle.counting.specs.Lists.{listOf}
 use Rattle.counting.proofs.Lists.{listOf-length, listOf-at}
 use Rattle.geometry.specs.declared.Geometry.{Geometry}
 use Rattle.geometry.specs.Geometry.{Sound, tupleSetsOf, setsOf, bytesOf}
 use Rattle.design.specs.Design.{Laid}
 use Rattle.cells.specs.declared.Cell.{Cell}
 use Rattle.cells.specs.Sets.{outerMember, innerMember, outerNumber, innerNumber}
-use Rattle.cells.specs.Ranges.{OuterIn, InnerIn}
+use Rattle.cells.specs.Ranges.{CellIn, OuterIn, InnerIn}
 use Rattle.cells.specs.Theorems.{ASet}
 use Rattle.cells.proofs.Sets.{outer-member-in, inner-member-in}
 use Rattle.cells.proofs.Theorems.{sets-are-numbered}
@@ -82,68 +83,81 @@ module _ (G : Geometry) (s : Sound G) (d : List ℕ) where
       go (inl (t, i, c, v, e)) = subst⁻¹ P (ap (setStarts G d) e ∙ set-starts-outer t i c v) (o t i c v)
       go (inr (t, l, j, v, e)) = subst⁻¹ P (ap (setStarts G d) e ∙ set-starts-inner t l j v) (q t l j v)
 
+-- ---- the units of the first n cells of a family f
+module _ (G : Geometry) (d : List ℕ) (f : ℕ → Cell) (n : ℕ) where
+  abbrev pub cellStarts : List ℕ
+  cellStarts = listOf (λ (l : ℕ). cellStart G d (f l)) n
+
+  pub starts-length : length cellStarts ≡ n
+  starts-length = listOf-length (λ (l : ℕ). cellStart G d (f l)) n
+
+  pub start-at : (l : ℕ) → l < n → getD cellStarts l 0 ≡ cellStart G d (f l)
+  start-at l h = listOf-at (λ (l : ℕ). cellStart G d (f l)) n l 0 h
+
+  pub start-low : (l : ℕ) → l < length cellStarts → l < n
+  start-low l h = omega (arith, starts-length)
+
+  module _ (L : Laid G d) (v : (l : ℕ) → l < n → CellIn G (f l)) where
+    cells-inside : (m : ℕ) → m ≡ bytesOf G → Inside m cellStarts (G .u)
+    cells-inside m e =
+        record {
+          inside = λ l h.
+              let q : l < n = start-low l h in
+              rw (start-at l q, e) (each-unit-lies-in-the-array G d L (f l) (v l q));
+        }
+
+    cells-spread : ((l m : ℕ) → f l ≡ f m → l ≡ m) → Spread cellStarts (G .u)
+    cells-spread only =
+        record {
+          spread = λ l m h k ne.
+              let p : l < n = start-low l h in
+              let q : m < n = start-low m k in
+              rw (start-at l p, start-at m q)
+              (no-two-units-share-a-byte G d L (f l) (f m) (v l p) (v m q) (λ e. ne (only l m e)));
+        }
+
 -- ---- the units of a set
 module _ (G : Geometry) (d : List ℕ) where
   pub outer-length : (t i c : ℕ) → length (outerStarts G d t i c) ≡ G .k
   unfolding outerStarts
-  outer-length t i c = listOf-length (λ (l : ℕ). cellStart G d (outerMember G t i c l)) (G .k)
+  outer-length t i c = starts-length G d (outerMember G t i c) (G .k)
 
   pub inner-length : (t l j : ℕ) → length (innerStarts G d t l j) ≡ G .g
   unfolding innerStarts
-  inner-length t l j = listOf-length (λ (i : ℕ). cellStart G d (innerMember G t l j i)) (G .g)
+  inner-length t l j = starts-length G d (innerMember G t l j) (G .g)
 
   pub outer-start-at :
       (t i c l : ℕ) → l < G .k → getD (outerStarts G d t i c) l 0 ≡ cellStart G d (outerMember G t i c l)
   unfolding outerStarts
-  outer-start-at t i c l h = listOf-at (λ (l : ℕ). cellStart G d (outerMember G t i c l)) (G .k) l 0 h
+  outer-start-at t i c = start-at G d (outerMember G t i c) (G .k)
 
   pub inner-start-at :
       (t l j i : ℕ) → i < G .g → getD (innerStarts G d t l j) i 0 ≡ cellStart G d (innerMember G t l j i)
   unfolding innerStarts
-  inner-start-at t l j i h = listOf-at (λ (i : ℕ). cellStart G d (innerMember G t l j i)) (G .g) i 0 h
+  inner-start-at t l j = start-at G d (innerMember G t l j) (G .g)
 
 module _ (G : Geometry) (d : List ℕ) (L : Laid G d) where
   pub outer-inside :
       (t i c : ℕ) → OuterIn G t i c → (n : ℕ) → n ≡ bytesOf G → Inside n (outerStarts G d t i c) (G .u)
-  outer-inside t i c v n e =
-      record {
-        inside = λ l h.
-            let q : l < G .k = omega (arith, outer-length G d t i c) in
-            rw (outer-start-at G d t i c l q, e)
-            (each-unit-lies-in-the-array G d L (outerMember G t i c l) (outer-member-in G (L .sound) t i c l v q));
-      }
+  unfolding outerStarts
+  outer-inside t i c v =
+      cells-inside G d (outerMember G t i c) (G .k) L (λ l h. outer-member-in G (L .sound) t i c l v h)
 
   pub inner-inside :
       (t l j : ℕ) → InnerIn G t l j → (n : ℕ) → n ≡ bytesOf G → Inside n (innerStarts G d t l j) (G .u)
-  inner-inside t l j v n e =
-      record {
-        inside = λ i h.
-            let q : i < G .g = omega (arith, inner-length G d t l j) in
-            rw (inner-start-at G d t l j i q, e)
-            (each-unit-lies-in-the-array G d L (innerMember G t l j i) (inner-member-in G (L .sound) t l j i v q));
-      }
+  unfolding innerStarts
+  inner-inside t l j v =
+      cells-inside G d (innerMember G t l j) (G .g) L (λ i h. inner-member-in G (L .sound) t l j i v h)
 
   -- units at two positions, or in two rows, are two
   pub outer-spread : (t i c : ℕ) → OuterIn G t i c → Spread (outerStarts G d t i c) (G .u)
+  unfolding outerStarts
   outer-spread t i c v =
-      record {
-        spread = λ l m h k ne.
-            let p : l < G .k = omega (arith, outer-length G d t i c) in
-            let q : m < G .k = omega (arith, outer-length G d t i c) in
-            rw (outer-start-at G d t i c l p, outer-start-at G d t i c m q)
-            (no-two-units-share-a-byte G d L (outerMember G t i c l) (outerMember G t i c m)
-            (outer-member-in G (L .sound) t i c l v p) (outer-member-in G (L .sound) t i c m v q)
-            (λ e. ne (ap (λ (x : Cell). x .position) e)));
-      }
+      cells-spread G d (outerMember G t i c) (G .k) L (λ l h. outer-member-in G (L .sound) t i c l v h)
+      (λ l m. ap (λ (x : Cell). x .position))
 
   pub inner-spread : (t l j : ℕ) → InnerIn G t l j → Spread (innerStarts G d t l j) (G .u)
+  unfolding innerStarts
   inner-spread t l j v =
-      record {
-        spread = λ i m h k ne.
-            let p : i < G .g = omega (arith, inner-length G d t l j) in
-            let q : m < G .g = omega (arith, inner-length G d t l j) in
-            rw (inner-start-at G d t l j i p, inner-start-at G d t l j m q)
-            (no-two-units-share-a-byte G d L (innerMember G t l j i) (innerMember G t l j m)
-            (inner-member-in G (L .sound) t l j i v p) (inner-member-in G (L .sound) t l j m v q)
-            (λ e. ne (ap (λ (x : Cell). x .row) e)));
-      }
+      cells-spread G d (innerMember G t l j) (G .g) L (λ i h. inner-member-in G (L .sound) t l j i v h)
+      (λ i m. ap (λ (x : Cell). x .row))
