@@ -13,16 +13,21 @@
  * Numbers. Any number is allowed for every parameter: it is tested before it is used. Pass no wider type than the parameter's:
  * C would cut it silently (-Wconversion finds that).
  *
- * Lists. `design` points to `length` numbers. NULL with `length` 0 is the empty list: nothing is read or written, and the call is
- * refused by 1, 2 or 3. Elsewhere the list must be readable (for
- * himzolven_fill also writable), aligned for uint16_t, and `length` its true length: no function can check that. No list is kept
- * after the call returns.
+ * Lists. Each list is a pointer and its length in elements. NULL with length 0 is the empty list: nothing of it is read or
+ * written. Elsewhere the list must be readable (written where the parameter is not const), `design` aligned for uint16_t, and
+ * the length its true length: no function can check that. No list is kept after the call returns.
  *
- * Aliasing. himzolven_fill is lent its list alone: no other thread may read or write it during the call. The other functions
- * only read their list; any number of calls may share one.
+ * Array and marks. `array` holds all disks, disk 0 whole, then disk 1: `bytes` of himzolven_sizes, at most 1,073,741,824.
+ * `marks` has one byte a disk, 0 present and 1 lost. Any alignment will do.
+ *
+ * Aliasing. A list that is not const is lent to the call alone: it shares no byte with another list of the same call, and no
+ * other thread may read or write it during the call. Lists that are const may overlap, and any number of calls may share them.
+ *
+ * Devices. A call returns when its stores are made in memory, in no promised order. If `array` is memory that a device reads
+ * (shared, mapped or persistent), ordering and flushing towards the device are the caller's duty.
  *
  * Threads and stack. No function has state of its own: each may be called from any thread, and several at a time, as long as
- * the lists obey the rule above. No function allocates, blocks, prints or fails to return. Each needs less than 10 KB of stack
+ * the lists obey the rules above. No function allocates, blocks, prints or fails to return. Each needs less than 10 KB of stack
  * (docs/SPEED.md has the measure).
  */
 #ifndef HIMZOLVEN_H
@@ -44,8 +49,13 @@ enum himzolven_refusal {
     HIMZOLVEN_BAD_ROW = 4,        /* a group number of v or more, or a row not ascending; place: first such row */
     HIMZOLVEN_BAD_PAIR = 5,       /* a pair a<b not in exactly one row; place: a*v+b, lowest a then b */
     HIMZOLVEN_BAD_SIZE = 6,       /* g not a prime from 2 to 13 or below k, or u not in 1..4096 */
+    HIMZOLVEN_BAD_LENGTH = 7,     /* array or marks of another length, or the array above 1,073,741,824 bytes */
+    HIMZOLVEN_BAD_MARK = 8,       /* a mark above 1; place: lowest disk */
     HIMZOLVEN_DISK_TOO_HIGH = 9,  /* disk or unit number too high */
-    HIMZOLVEN_USER_TOO_HIGH = 10  /* user unit number too high */
+    HIMZOLVEN_USER_TOO_HIGH = 10, /* user unit number too high */
+    HIMZOLVEN_BAD_RANGE = 11,     /* range leaves the unit: its offset plus its length is above u */
+    HIMZOLVEN_LOST = 12           /* read: data disk marked; write: any of its four disks marked; place: first marked disk of
+                                   * data, outer parity, inner parity of data, inner parity of outer parity */
 };
 
 /* The roles of a unit. */
@@ -112,6 +122,12 @@ himzolven_map_answer himzolven_map(uint32_t v, uint32_t k, uint32_t g, uint32_t 
 
 /* The role of a disk's unit. Refusals 2, 3, 4, 5, 6, 9. */
 himzolven_role_answer himzolven_role(uint32_t v, uint32_t k, uint32_t g, uint32_t u, const uint16_t *design, size_t length, uint32_t disk, uint32_t unit);
+
+/* Makes all array bytes and all marks 0. Refusals 2, 3, 4, 5, 6, 7, 8. */
+himzolven_answer himzolven_format(uint32_t v, uint32_t k, uint32_t g, uint32_t u, const uint16_t *design, size_t length, uint8_t *array, size_t array_length, uint8_t *marks, size_t marks_length);
+
+/* Reads bytes_length bytes from `offset` of a user unit. bytes_length may be 0. Refusals 2, 3, 4, 5, 6, 7, 8, 10, 11, 12. */
+himzolven_answer himzolven_read(uint32_t v, uint32_t k, uint32_t g, uint32_t u, const uint16_t *design, size_t length, const uint8_t *array, size_t array_length, const uint8_t *marks, size_t marks_length, uint32_t user_unit, uint64_t offset, uint8_t *bytes, size_t bytes_length);
 
 #ifdef __cplusplus
 }

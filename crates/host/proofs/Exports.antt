@@ -21,6 +21,12 @@ use Rattle.layout.specs.Places.{fourOf, roleAt}
 use Rattle.address.specs.Address.{mapRules, roleRules}
 use Rattle.address.specs.Reasons.{mapRows, roleRows}
 use Rattle.address.proofs.Reasons.{map-exact, role-exact}
+use Rattle.array.specs.Rules.{arrayRules}
+use Rattle.array.specs.Reasons.{arrayRows}
+use Rattle.array.proofs.Reasons.{array-exact}
+use Rattle.reading.specs.Reading.{readRules}
+use Rattle.reading.specs.Reasons.{readRows}
+use Rattle.reading.proofs.Reasons.{read-exact}
 use Rattle.host.specs.declared.Answer.{Answer}
 use Rattle.host.specs.declared.SizesAnswer.{SizesAnswer}
 use Rattle.host.specs.declared.MapAnswer.{MapAnswer}
@@ -33,6 +39,8 @@ use Rattle.host.proofs.himzolven_check.Reads as check
 use Rattle.host.proofs.himzolven_sizes.Reads as sizes
 use Rattle.host.proofs.himzolven_map.Reads as map
 use Rattle.host.proofs.himzolven_role.Reads as role
+use Rattle.host.proofs.himzolven_format.Reads as format
+use Rattle.host.proofs.himzolven_read.Reads as read
 
 -- what each contract allows
 abbrev pub FillAllowed : Lfts 1 → ℕ → RefT (List ℕ) → Answer → RefT (List ℕ) → Type 0
@@ -52,6 +60,18 @@ MapAllowed κs v k g u design n r =
 abbrev pub RoleAllowed : Lfts 1 → (v k g u : ℕ) → RefT (List ℕ) → (disk unit : ℕ) → RoleAnswer → Type 0
 RoleAllowed κs v k g u design disk unit r =
     role.Post κs (v, (k, (g, (u, (design, (disk, (unit, tt))))))) r (v, (k, (g, (u, (design, (disk, (unit, tt)))))))
+
+abbrev pub FormatAllowed :
+    Lfts 3 → (v k g u : ℕ) → (design array marks : RefT (List ℕ)) → Answer → (a m : RefT (List ℕ)) → Type 0
+FormatAllowed κs v k g u design array marks r a m =
+    format.Post κs (v, (k, (g, (u, (design, (array, (marks, tt))))))) r (v, (k, (g, (u, (design, (a, (m, tt)))))))
+
+abbrev pub ReadAllowed :
+    Lfts 4 → (v k g u : ℕ) → (design array marks : RefT (List ℕ)) → (n offset : ℕ) → RefT (List ℕ) → Answer → RefT (List ℕ) →
+    Type 0
+ReadAllowed κs v k g u design array marks n offset bytes r last =
+    read.Post κs (v, (k, (g, (u, (design, (array, (marks, (n, (offset, (bytes, tt)))))))))) r
+    (v, (k, (g, (u, (design, (array, (marks, (n, (offset, (last, tt))))))))))
 
 -- what C is told
 
@@ -91,6 +111,25 @@ role-told κs v k g u design disk unit r p =
     front-tells (roleRows (geometry v k g u) (now design) disk unit) (answer (roleRules (geometry v k g u) (now design) disk unit) (roleAt (geometry v k g u) (now design) disk unit)) (r .refusal) (r .place) (lit< tt, (lit< tt, (lit< tt, (lit< tt, (lit< tt, (lit< tt, tt)))))) (role-exact (geometry v k g u) (now design) disk unit (roleAt (geometry v k g u) (now design) disk unit))
     (front-role (answer (roleRules (geometry v k g u) (now design) disk unit) (roleAt (geometry v k g u) (now design) disk unit)) r p)
 
+pub format-told :
+    (κs : Lfts 3) (v k g u : ℕ) (design array marks a m : RefT (List ℕ)) (r : Answer) →
+    FormatAllowed κs v k g u design array marks r a m →
+    Told (arrayRows (geometry v k g u) (now design) (length (now array)) (now marks)) (r .refusal) (r .place)
+format-told κs v k g u design array marks a m r p =
+    front-tells (arrayRows (geometry v k g u) (now design) (length (now array)) (now marks)) (verdict (arrayRules (geometry v k g u) (now design) (length (now array)) (now marks))) (r .refusal) (r .place)
+    (lit< tt, (lit< tt, (lit< tt, (lit< tt, (lit< tt, (lit< tt, (lit< tt, tt))))))) (array-exact (geometry v k g u) (now design) (length (now array)) (now marks) tt)
+    (front-answer (verdict (arrayRules (geometry v k g u) (now design) (length (now array)) (now marks))) r (p .0))
+
+pub read-told :
+    (κs : Lfts 4) (v k g u : ℕ) (design array marks : RefT (List ℕ)) (n offset : ℕ) (bytes last : RefT (List ℕ)) (r : Answer) →
+    ReadAllowed κs v k g u design array marks n offset bytes r last →
+    Told (readRows (geometry v k g u) (now design) (length (now array)) (now marks) n offset (length (now bytes))) (r .refusal) (r .place)
+read-told κs v k g u design array marks n offset bytes last r p =
+    let rules = readRules (geometry v k g u) (now design) (length (now array)) (now marks) n offset (length (now bytes)) in
+    front-tells (readRows (geometry v k g u) (now design) (length (now array)) (now marks) n offset (length (now bytes))) (verdict rules) (r .refusal) (r .place)
+    (lit< tt, (lit< tt, (lit< tt, (lit< tt, (lit< tt, (lit< tt, (lit< tt, (lit< tt, (lit< tt, (lit< tt, tt)))))))))) (read-exact (geometry v k g u) (now design) (length (now array)) (now marks) n offset (length (now bytes)) tt)
+    (front-answer (verdict rules) r (p .0))
+
 -- two answers are one
 
 pub fill-two-results :
@@ -117,3 +156,15 @@ pub role-two-results :
     (κs : Lfts 1) (v k g u : ℕ) (design : RefT (List ℕ)) (disk unit : ℕ) (r s : RoleAnswer) →
     RoleAllowed κs v k g u design disk unit r → RoleAllowed κs v k g u design disk unit s → r ≡ s
 role-two-results κs v k g u design disk unit r s p q = p ∙ sym q
+
+pub format-two-results :
+    (κs : Lfts 3) (v k g u : ℕ) (design array marks a b m w : RefT (List ℕ)) (r s : Answer) →
+    FormatAllowed κs v k g u design array marks r a m → FormatAllowed κs v k g u design array marks s b w →
+    (r ≡ s) × (now a ≡ now b) × (now m ≡ now w)
+format-two-results κs v k g u design array marks a b m w r s p q = (p .0 ∙ sym (q .0), p .1 ∙ sym (q .1), p .2 ∙ sym (q .2))
+
+pub read-two-results :
+    (κs : Lfts 4) (v k g u : ℕ) (design array marks : RefT (List ℕ)) (n offset : ℕ) (bytes x y : RefT (List ℕ)) (r s : Answer) →
+    ReadAllowed κs v k g u design array marks n offset bytes r x → ReadAllowed κs v k g u design array marks n offset bytes s y →
+    (r ≡ s) × (now x ≡ now y)
+read-two-results κs v k g u design array marks n offset bytes x y r s p q = (p .0 ∙ sym (q .0), p .1 ∙ sym (q .1))

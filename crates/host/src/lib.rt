@@ -9,6 +9,9 @@ ghost use Rattle.held.specs.Held.{fillRules, heldDesign};
 ghost use Rattle.sizes.specs.Sizes.{sizesRules, sizesOf, sizedOutcome};
 ghost use Rattle.address.specs.Address.{mapRules, roleRules, mappedOutcome, locatedOutcome};
 ghost use Rattle.layout.specs.Places.{fourOf, roleAt};
+ghost use Rattle.array.specs.Array.{formattedArray, formattedMarks};
+ghost use Rattle.array.specs.Rules.{arrayRules};
+ghost use Rattle.reading.specs.Reading.{readOf, readRules};
 ghost use Rattle.host.specs.Flat.{geometry, flatAnswer, flatSizes, flatMap, flatRole, flatRoleOf};
 use address::Located;
 use address::Mapped;
@@ -247,4 +250,65 @@ pub extern "C" fn himzolven_role(
         (roleAt (geometry v k g u) (now (design .entry)) disk unit)) ⌝ }
 {
     located_of(address::role(Geometry { v, k, g, u }, design, Disk(disk), Unit(unit)))
+}
+
+// Makes all array bytes and marks 0: refusals 2 to 8.
+#[no_mangle]
+pub extern "C" fn himzolven_format(
+    v: u32,
+    k: u32,
+    g: u32,
+    u: u32,
+    design: &[u16],
+    array: &mut [u8],
+    marks: &mut [u8],
+) -> Answer
+    ensures { λ r. ⌜ (r
+        ≡ flatAnswer (verdict (arrayRules (geometry v k g u) (now (design .entry)) (length (now (array .entry))) (now (marks .entry)))))
+        × (now (array .exit)
+        ≡ kept (verdict (arrayRules (geometry v k g u) (now (design .entry)) (length (now (array .entry))) (now (marks .entry))))
+        (formattedArray (geometry v k g u)) (now (array .entry)))
+        × (now (marks .exit)
+        ≡ kept (verdict (arrayRules (geometry v k g u) (now (design .entry)) (length (now (array .entry))) (now (marks .entry))))
+        (formattedMarks (geometry v k g u)) (now (marks .entry))) ⌝ }
+{
+    answer_of(array::format(Geometry { v, k, g, u }, design, array, marks))
+}
+
+// Reads a byte range of one user unit into the lent buffer: refusals 2 to 8 and 10 to 12.
+#[no_mangle]
+pub extern "C" fn himzolven_read(
+    v: u32,
+    k: u32,
+    g: u32,
+    u: u32,
+    design: &[u16],
+    array: &[u8],
+    marks: &[u8],
+    user_unit: u32,
+    offset: u64,
+    bytes: &mut [u8],
+) -> Answer
+    ensures { λ r. ⌜ (r
+        ≡ flatAnswer
+        (verdict
+        (readRules (geometry v k g u) (now (design .entry)) (length (now (array .entry))) (now (marks .entry)) «user_unit» offset
+        (length (now (bytes .entry))))))
+        × (now (bytes .exit)
+        ≡ kept
+        (verdict
+        (readRules (geometry v k g u) (now (design .entry)) (length (now (array .entry))) (now (marks .entry)) «user_unit» offset
+        (length (now (bytes .entry)))))
+        (readOf (geometry v k g u) (now (design .entry)) (now (array .entry)) «user_unit» offset (length (now (bytes .entry))))
+        (now (bytes .entry))) ⌝ }
+{
+    answer_of(reading::read(
+        Geometry { v, k, g, u },
+        design,
+        array,
+        marks,
+        UserUnit(user_unit),
+        offset,
+        bytes,
+    ))
 }
