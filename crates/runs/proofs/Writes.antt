@@ -101,13 +101,13 @@ unfolding run
 block-written a x e new p ps k h g f =
     f ∙ ap (addAll a (p ∷ ps)) (g ∙ ap (λ (n : ℕ). xors (midOf p n a) new) (add-sub-cancel-left p k ∙ sym h))
 
-apart-part : (p n q i k : ℕ) → i + k ≤ n → Apart p n q n → Apart (p + i) k (q + i) k
+pub apart-part : (p n q i k : ℕ) → i + k ≤ n → Apart p n q n → Apart (p + i) k (q + i) k
 apart-part p n q i k h a = record {
   apart = ⊎-elim (λ (l : p + n ≤ q). inl (omega arith)) (λ (l : q + n ≤ p). inr (omega arith)) (a .apart);
 }
 
 -- i bytes further on and k bytes long
-four-part : (m p q r s n i k : ℕ) → Four m p q r s n → i + k ≤ n → Four m (p + i) (q + i) (r + i) (s + i) k
+pub four-part : (m p q r s n i k : ℕ) → Four m p q r s n → i + k ≤ n → Four m (p + i) (q + i) (r + i) (s + i) k
 four-part m p q r s n i k f h = record {
   inside = omega (arith, f .inside);
   from-q = apart-part p n q i k h (f .from-q);
