@@ -1,2 +1,5 @@
 pub mod Members
 pub mod Sets
+pub mod Lost
+pub mod Places
+pub mod Answers

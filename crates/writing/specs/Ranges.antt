@@ -1,0 +1,31 @@
+-- What the write relies on once it is checked: the four places, and where their ranges begin. Assumes nothing.
+use Prim.Native.Nat.{ℕ, _+_, _<_}
+use mathlib.Core.List.{List, [], _∷_}
+use Rattle.geometry.specs.declared.Geometry.{Geometry}
+use Rattle.layout.specs.declared.Four.{Four}
+use Rattle.layout.specs.Ranges.{PlaceIn}
+use Rattle.layout.specs.Theorems.{FourApart}
+use Rattle.array.specs.Array.{startOf}
+
+-- four places of the geometry, on four different disks
+pub record FourIn (G : Geometry) (f : Four) : Type 0 where
+  pub user : PlaceIn G (f .user)
+  pub outer : PlaceIn G (f .outer)
+  pub inner : PlaceIn G (f .inner)
+  pub both : PlaceIn G (f .both)
+  pub apart : FourApart f
+
+-- each of the four disks has one of n marks
+pub record FourMarked (n : ℕ) (f : Four) : Type 0 where
+  pub user : f .user .disk .0 < n
+  pub outer : f .outer .disk .0 < n
+  pub inner : f .inner .disk .0 < n
+  pub both : f .both .disk .0 < n
+
+-- where the range from offset o begins in the data unit
+abbrev pub dataStart : Geometry → Four → ℕ → ℕ
+dataStart G f o = startOf G (f .user) + o
+
+-- and in the three parity units
+abbrev pub parityStarts : Geometry → Four → ℕ → List ℕ
+parityStarts G f o = (startOf G (f .outer) + o) ∷ (startOf G (f .inner) + o) ∷ (startOf G (f .both) + o) ∷ []
