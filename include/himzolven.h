@@ -129,6 +129,11 @@ himzolven_answer himzolven_format(uint32_t v, uint32_t k, uint32_t g, uint32_t u
 /* Reads bytes_length bytes from `offset` of a user unit. bytes_length may be 0. Refusals 2, 3, 4, 5, 6, 7, 8, 10, 11, 12. */
 himzolven_answer himzolven_read(uint32_t v, uint32_t k, uint32_t g, uint32_t u, const uint16_t *design, size_t length, const uint8_t *array, size_t array_length, const uint8_t *marks, size_t marks_length, uint32_t user_unit, uint64_t offset, uint8_t *bytes, size_t bytes_length);
 
+/* Writes bytes_length bytes from `offset` of a user unit. The difference to what was there is XORed into the data unit, its outer
+ * parity, the inner parity of the data unit and the inner parity of the outer parity unit: four stores. bytes_length may be 0.
+ * Refusals 2, 3, 4, 5, 6, 7, 8, 10, 11, 12. */
+himzolven_answer himzolven_write(uint32_t v, uint32_t k, uint32_t g, uint32_t u, const uint16_t *design, size_t length, uint8_t *array, size_t array_length, const uint8_t *marks, size_t marks_length, uint32_t user_unit, uint64_t offset, const uint8_t *bytes, size_t bytes_length);
+
 #ifdef __cplusplus
 }
 #endif

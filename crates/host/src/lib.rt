@@ -12,6 +12,7 @@ ghost use Rattle.layout.specs.Places.{fourOf, roleAt};
 ghost use Rattle.array.specs.Array.{formattedArray, formattedMarks};
 ghost use Rattle.array.specs.Rules.{arrayRules};
 ghost use Rattle.reading.specs.Reading.{readOf, readRules};
+ghost use Rattle.writing.specs.Writing.{writeOf, writeRules};
 ghost use Rattle.host.specs.Flat.{geometry, flatAnswer, flatSizes, flatMap, flatRole, flatRoleOf};
 use address::Located;
 use address::Mapped;
@@ -303,6 +304,44 @@ pub extern "C" fn himzolven_read(
         (now (bytes .entry))) ⌝ }
 {
     answer_of(reading::read(
+        Geometry { v, k, g, u },
+        design,
+        array,
+        marks,
+        UserUnit(user_unit),
+        offset,
+        bytes,
+    ))
+}
+
+// Writes a byte range of one user unit, and its difference to what was there into three parity units: refusals 2 to 8 and 10 to 12.
+#[no_mangle]
+pub extern "C" fn himzolven_write(
+    v: u32,
+    k: u32,
+    g: u32,
+    u: u32,
+    design: &[u16],
+    array: &mut [u8],
+    marks: &[u8],
+    user_unit: u32,
+    offset: u64,
+    bytes: &[u8],
+) -> Answer
+    ensures { λ r. ⌜ (r
+        ≡ flatAnswer
+        (verdict
+        (writeRules (geometry v k g u) (now (design .entry)) (length (now (array .entry))) (now (marks .entry)) «user_unit» offset
+        (length (now (bytes .entry))))))
+        × (now (array .exit)
+        ≡ kept
+        (verdict
+        (writeRules (geometry v k g u) (now (design .entry)) (length (now (array .entry))) (now (marks .entry)) «user_unit» offset
+        (length (now (bytes .entry)))))
+        (writeOf (geometry v k g u) (now (design .entry)) (now (array .entry)) «user_unit» offset (now (bytes .entry)))
+        (now (array .entry))) ⌝ }
+{
+    answer_of(writing::write(
         Geometry { v, k, g, u },
         design,
         array,
