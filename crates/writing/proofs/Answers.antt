@@ -17,7 +17,7 @@ use Rattle.array.proofs.Kept.{kept-old, kept-new}
 use Rattle.reading.specs.Reading.{readOf}
 use Rattle.writing.specs.Writing.{writeCells, differenceOf, writeOf, writeRules}
 use Rattle.writing.specs.Ranges.{FourIn, FourMarked, dataStart, parityStarts}
-use Rattle.writing.proofs.Lost.{twelfth}
+use Rattle.writing.proofs.Reasons.{twelfth}
 use Rattle.writing.proofs.Places.{four-in, four-marked}
 
 -- the write at the four places of the user unit

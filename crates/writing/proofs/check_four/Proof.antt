@@ -1,7 +1,7 @@
 -- `writing::check_four` meets its contract: each return by the law of its case. Assumes nothing.
 use mathlib.Core.Path.{sym, _∙_}
 use borrow.Author.Needs.{needs}
-use Rattle.writing.proofs.Lost.{user-lost, outer-lost, inner-lost, both-lost, none-lost}
+use Rattle.writing.proofs.Twelve.{user-lost, outer-lost, inner-lost, both-lost, none-lost}
 use Rattle.writing.proofs.check_four.Statement.{statement}
 use Rattle.writing.proofs.check_four.Tie as tie
 
