@@ -6,3 +6,6 @@ pub mod Twelve
 pub mod Places
 pub mod Answers
 pub mod TwoResults
+pub mod Bytes
+pub mod Starts
+pub mod Theorems
