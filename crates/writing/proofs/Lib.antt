@@ -9,3 +9,4 @@ pub mod TwoResults
 pub mod Bytes
 pub mod Starts
 pub mod Theorems
+pub mod Accepted

@@ -39,7 +39,7 @@ module _ (G : Geometry) (marks : List ℕ) (f : Four) where
   abbrev Names : ℕ → Type 0
   Names p = (fourLost G marks f ≡ true) × (firstLost G marks f ≡ p)
 
-  names-user : gone (f .user) → Names (f .user .disk .0)
+  pub names-user : gone (f .user) → Names (f .user .disk .0)
   unfolding fourLost firstLost
   names-user a = (rw a, rw a)
 
@@ -84,7 +84,9 @@ module _ (G : Geometry) (marks : List ℕ) (f : Four) where
       go (bool-either (lost G marks (f .user))) (bool-either (lost G marks (f .outer))) (bool-either (lost G marks (f .inner)))
       (bool-either (lost G marks (f .both)))
     where
-      made : (w p : ℕ) → w < 4 → p ≡ getD (fourDisks f) w 0 → Names p → Mark w → Unmarked w → FirstMarked marks f (firstLost G marks f)
+      made :
+          (w p : ℕ) → w < 4 → p ≡ getD (fourDisks f) w 0 → Names p → Mark w → Unmarked w
+          → FirstMarked marks f (firstLost G marks f)
       made w p l e n k h =
           record { which = w; below = l; here = n .1 ∙ e; marked = ap (λ (x : ℕ). getD marks x 0) (n .1 ∙ e) ∙ k; first = h }
 
@@ -143,7 +145,9 @@ module _ (G : Geometry) (d : List ℕ) (bytes : ℕ) (marks : List ℕ) (m o n :
   unfolding writeRules
   write-rows-fit =
       fits-append (arrayRules G d bytes marks) _ (arrayRows G d bytes marks) _ (array-rows-fit G d bytes marks)
-      (λ _. range-rows-fit G d bytes marks m o n (twelfth G marks (fourOf G d m) ∷ []) (row 12 (FirstMarked marks (fourOf G d m)) ∷ []) (fit-12 G marks (fourOf G d m), λ _. tt))
+      (λ _.
+      range-rows-fit G d bytes marks m o n (twelfth G marks (fourOf G d m) ∷ []) (row 12 (FirstMarked marks (fourOf G d m)) ∷ [])
+      (fit-12 G marks (fourOf G d m), λ _. tt))
 
   -- the write: 2 to 8 and 10 to 12
   pub write-exact : {A : Type 0} (a : A) → Exact (writeRows G d bytes marks m o n) (answer (writeRules G d bytes marks m o n) a)

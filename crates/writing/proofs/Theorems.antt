@@ -54,7 +54,8 @@ module _ {G : Geometry} {d a : List ℕ} {m o : ℕ} (new : List ℕ) (R : Range
       → getD (writtenAt G d a m o new) (getD (starts G d m o) t 0 + j) 0
       ≡ bitXor (getD a (getD (starts G d m o) t 0 + j) 0) (bitXor (getD a (p + j) 0) (getD new j 0))
   added t k j l =
-      addAll-in a (starts G d m o) (differenceAt a p new) (rw long (starts-spread R)) (rw long (starts-inside R)) j (rw long l) t k
+      addAll-in a (starts G d m o) (differenceAt a p new) (rw long (starts-spread R)) (rw long (starts-inside R)) j (rw long l) t
+      k
       ∙ ap (bitXor (getD a (getD (starts G d m o) t 0 + j) 0)) (at-difference a p new fits j l)
 
   off : (x : Cell) (i : ℕ) → Beside G d x o (length new) i → Off (length new) i (cellStart G d x + o)
@@ -88,9 +89,12 @@ a-read-after-a-write G d a m o new R =
     (λ (t : ℕ) (l : t < 3). starts-spread R .spread 0 (suc t) (omega arith) (omega arith) (λ (e : 0 ≡ suc t). omega arith))
 
 -- a user unit that is not m lies apart from all four ranges
-module _ {G : Geometry} {d a : List ℕ} {m o n : ℕ} (R : Range G d a m o n) (w : ℕ) (below : w < userUnitsOf G) (differ : w ≡ m → ⊥) where
+module _ {G : Geometry} {d a : List ℕ} {m o n : ℕ} (R : Range G d a m o n)
+    (w : ℕ) (below : w < userUnitsOf G) (differ : w ≡ m → ⊥) where
   -- since its cell's role is another one
-  by-role : (y : Cell) → CellIn G y → (user w ≡ roleOf G y → ⊥) → Apart (cellStart G d y + o) n (cellStart G d (userCell G w)) (G .u)
+  by-role :
+      (y : Cell) → CellIn G y → (user w ≡ roleOf G y → ⊥)
+      → Apart (cellStart G d y + o) n (cellStart G d (userCell G w)) (G .u)
   by-role y h other =
       apart-within (cellStart G d y) (cellStart G d (userCell G w)) (G .u) o n (R .inside)
       (no-two-units-share-a-byte G d (R .laid) y (userCell G w) h (user-cell-in G (R .laid .sound) w below)
