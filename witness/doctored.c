@@ -13,16 +13,16 @@
  * The stores are volatile, so that a compiler leaves each as it is written here. */
 #include "himzolven.h"
 
-himzolven_answer doctored_write(uint32_t v, uint32_t k, uint32_t g, uint32_t u, const uint16_t *design, size_t design_length, uint8_t *array,
-                                size_t array_length, const uint8_t *marks, size_t marks_length, uint32_t user_unit, uint64_t offset,
-                                const uint8_t *bytes, size_t bytes_length);
+himzolven_answer doctored_write(uint32_t v, uint32_t k, uint32_t g, uint32_t u, const uint16_t *design, size_t design_length,
+                                uint8_t *array, size_t array_length, const uint8_t *marks, size_t marks_length,
+                                uint32_t user_unit, uint64_t offset, const uint8_t *bytes, size_t bytes_length);
 
-typedef uint64_t word __attribute__((aligned(1), may_alias));
+typedef uint8_t wide __attribute__((vector_size(16), aligned(1), may_alias));
 typedef uint16_t pair __attribute__((aligned(1), may_alias));
 
 static void add(uint8_t *unit, const uint8_t *difference, size_t length) {
     size_t b = 0;
-    for (; b + 8 <= length; b += 8) *(volatile word *)(unit + b) ^= *(const word *)(difference + b);
+    for (; b + 16 <= length; b += 16) *(volatile wide *)(unit + b) ^= *(const wide *)(difference + b);
     for (; b < length; b++) *(volatile uint8_t *)(unit + b) ^= difference[b];
 }
 
@@ -35,9 +35,9 @@ static void add_four(uint8_t *array, const size_t at[4], const uint8_t *differen
     if (FAULT == 4) *(volatile pair *)(array + at[3] + length - 1) ^= 0;
 }
 
-himzolven_answer doctored_write(uint32_t v, uint32_t k, uint32_t g, uint32_t u, const uint16_t *design, size_t design_length, uint8_t *array,
-                                size_t array_length, const uint8_t *marks, size_t marks_length, uint32_t user_unit, uint64_t offset,
-                                const uint8_t *bytes, size_t bytes_length) {
+himzolven_answer doctored_write(uint32_t v, uint32_t k, uint32_t g, uint32_t u, const uint16_t *design, size_t design_length,
+                                uint8_t *array, size_t array_length, const uint8_t *marks, size_t marks_length,
+                                uint32_t user_unit, uint64_t offset, const uint8_t *bytes, size_t bytes_length) {
     uint8_t difference[4096];
     himzolven_map_answer m = himzolven_map(v, k, g, u, design, design_length, user_unit);
     if (m.refusal) return (himzolven_answer){m.refusal, m.place};

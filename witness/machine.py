@@ -18,11 +18,15 @@ Site = namedtuple("Site", "address unit stores most")  # an instruction that sto
 Instruction = namedtuple("Instruction", "address code text function start")  # start: the function's address
 
 
+def stop(message):
+    sys.exit(f"witness/{Path(sys.argv[0]).name}: {message}")
+
+
 def command(*words):
     """What a command that must succeed prints."""
     ran = subprocess.run([str(w) for w in words], capture_output=True, text=True)
     if ran.returncode:
-        sys.exit(f"{Path(sys.argv[0]).name}: {' '.join(map(str, words))}:\n{(ran.stderr or ran.stdout).rstrip()}")
+        stop(f"{' '.join(map(str, words))}:\n{(ran.stderr or ran.stdout).rstrip()}")
     return ran.stdout
 
 
@@ -35,7 +39,7 @@ def options(about):
         chosen[words[0]] = Path(words[1])
         words = words[2:]
     if not chosen["--archive"].is_file():
-        sys.exit(f"{Path(sys.argv[0]).name}: there is no {chosen['--archive']}; `rt staticlib host` makes the shipped one")
+        stop(f"there is no {chosen['--archive']}; `rt staticlib host` makes the shipped one")
     return chosen["--archive"], chosen["--include"]
 
 
@@ -82,12 +86,12 @@ def own_sites(sites, by_address):
     """The sites, each of which must stand in the program itself and store to one unit only."""
     for site in sites:
         if site.address not in by_address:
-            sys.exit(f"{Path(sys.argv[0]).name}: the {UNITS[site.unit]} is stored at {site.address:#x}, outside the program")
+            stop(f"the {UNITS[site.unit]} is stored at {site.address:#x}, outside the program")
         units = sorted(s.unit for s in sites if s.address == site.address)
         if len(units) > 1:
             names = ", ".join(UNITS[w] for w in units)
-            sys.exit(f"{Path(sys.argv[0]).name}: one instruction, {by_address[site.address].text} at {site.address:#x}, stores to: {names}")
+            stop(f"one instruction, `{by_address[site.address].text}` at {site.address:#x}, stores to each of: {names}")
     for w, name in enumerate(UNITS):
         if not any(s.unit == w for s in sites):
-            sys.exit(f"{Path(sys.argv[0]).name}: no instruction stores to the {name}")
+            stop(f"no instruction stores to the {name}")
     return sites

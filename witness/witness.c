@@ -20,6 +20,7 @@
 
 #include <signal.h>
 #include <stdarg.h>
+#include <stdatomic.h>
 #include <stdbool.h>
 #include <stdio.h>
 #include <stdlib.h>
@@ -29,16 +30,17 @@
 #include <unistd.h>
 
 #ifdef WITNESS_WRITE /* another write than the library's: witness/doctored.c */
-himzolven_answer WITNESS_WRITE(uint32_t v, uint32_t k, uint32_t g, uint32_t u, const uint16_t *design, size_t design_length, uint8_t *array,
-                               size_t array_length, const uint8_t *marks, size_t marks_length, uint32_t user_unit, uint64_t offset,
-                               const uint8_t *bytes, size_t bytes_length);
+himzolven_answer WITNESS_WRITE(uint32_t v, uint32_t k, uint32_t g, uint32_t u, const uint16_t *design, size_t design_length,
+                               uint8_t *array, size_t array_length, const uint8_t *marks, size_t marks_length, uint32_t user_unit,
+                               uint64_t offset, const uint8_t *bytes, size_t bytes_length);
 #else
 #define WITNESS_WRITE himzolven_write
 #endif
 
 enum { PAGE = 4096, UNITS = 4, OPEN = 4, SITES = 512, TRAP_FLAG = 0x100, STARTS = 2 * UNITS + 1 };
 
-static const char *const NAME[UNITS] = {"data unit", "outer parity", "inner parity of the data", "inner parity of the outer parity"};
+static const char *const NAME[UNITS] = {"data unit", "outer parity", "inner parity of the data",
+                                        "inner parity of the outer parity"};
 
 /* -- The layout, from document 01 -- */
 
@@ -109,7 +111,8 @@ typedef struct {
 } site;
 
 static struct {
-    uint8_t *pages, *before, *seen; /* the pages around the array; their bytes before the instruction; 1 where a store changed a byte */
+    uint8_t *pages, *before,
+        *seen; /* the pages around the array; their bytes before the instruction; 1 where a store changed a byte */
     size_t size, start[UNITS], length;
     uintptr_t by; /* the instruction under way: the pages it opened, where it faulted, what it touched and changed */
     uint8_t *open[OPEN];
@@ -134,8 +137,8 @@ static uint8_t any_byte(void) {
 static void fail(const char *format, ...) {
     va_list rest;
     if (now)
-        fprintf(stderr, "witness: %s, u = %u, user unit %u, offset %zu, length %zu, array at byte %zu of a page:\n  ", now->s->name, now->s->u,
-                now->n, now->offset, now->length, now->shift);
+        fprintf(stderr, "witness: %s, u = %u, user unit %u, offset %zu, length %zu, array at byte %zu of a page:\n  ",
+                now->s->name, now->s->u, now->n, now->offset, now->length, now->shift);
     else
         fprintf(stderr, "witness: ");
     va_start(rest, format);
@@ -155,6 +158,8 @@ static void *pages(size_t size) {
 static void allow(void *at, size_t size, int how) {
     if (mprotect(at, size, how)) fail("mprotect failed");
 }
+
+static uint16_t *design_of(void) { return (uint16_t *)(void *)design_lent.bytes; }
 
 /* -- The two handlers -- */
 
@@ -196,9 +201,12 @@ static void on_fault(int number, siginfo_t *info, void *context) {
     const lent *all[] = {&design_lent, &marks_lent, &source_lent};
     for (size_t i = 0; i < 3; i++)
         if (at >= all[i]->bytes && at < all[i]->bytes + all[i]->size)
-            fail("a store to byte %zu of the %s, which is lent to be read (instruction at %#lx)", (size_t)(at - all[i]->bytes), all[i]->name, (unsigned long)by);
+            fail("a store to byte %zu of the %s, which is lent to be read (instruction at %#lx)", (size_t)(at - all[i]->bytes),
+                 all[i]->name, (unsigned long)by);
     if (!watch.on || at < watch.pages || at >= watch.pages + watch.size)
         fail("a fault at %p, outside everything lent (instruction at %#lx)", (void *)at, (unsigned long)by);
+    if (watch.opened && watch.by != by)
+        fail("no trap came after the store at %#lx: the trap flag does not work here", (unsigned long)watch.by);
     if (watch.opened == OPEN) fail("one instruction faults at more than %d pages", OPEN);
     size_t offset = (size_t)(at - watch.pages);
     watch.by = by;
@@ -234,7 +242,7 @@ static void on_step(int number, siginfo_t *info, void *context) {
     ((ucontext_t *)context)->uc_mcontext.gregs[REG_EFL] &= ~(greg_t)TRAP_FLAG;
 }
 
-static void catch(int number, void (*handler)(int, siginfo_t *, void *)) {
+static void catch (int number, void (*handler)(int, siginfo_t *, void *)) {
     struct sigaction how;
     memset(&how, 0, sizeof how);
     how.sa_sigaction = handler;
@@ -246,8 +254,29 @@ static void catch(int number, void (*handler)(int, siginfo_t *, void *)) {
 static void set_handlers(void) {
     stack_t own = {.ss_sp = pages(16 * PAGE), .ss_size = 16 * PAGE};
     if (sigaltstack(&own, NULL)) fail("sigaltstack failed");
-    catch(SIGSEGV, on_fault);
-    catch(SIGTRAP, on_step);
+    catch (SIGSEGV, on_fault);
+    catch (SIGTRAP, on_step);
+}
+
+/* One store of the witness's own over the edge of two pages, then one more: without faults and traps it would see nothing. */
+static void probe(void) {
+    typedef uint64_t word __attribute__((aligned(1), may_alias));
+    watch.size = 2 * PAGE, watch.start[0] = PAGE - 5, watch.length = 8;
+    watch.pages = pages(watch.size), watch.before = pages(watch.size), watch.seen = pages(watch.size);
+    watch.start[1] = watch.start[2] = watch.start[3] = watch.size;
+    allow(watch.pages, watch.size, PROT_READ);
+    watch.on = true;
+    atomic_signal_fence(memory_order_seq_cst); /* the handlers read and change what the compiler holds for its own */
+    *(volatile word *)(watch.pages + PAGE - 5) = UINT64_MAX;
+    *(volatile uint8_t *)(watch.pages + PAGE - 5) = UINT8_MAX;
+    atomic_signal_fence(memory_order_seq_cst);
+    watch.on = false;
+    for (size_t b = 0; b < watch.size; b++)
+        if (watch.seen[b] != (b >= PAGE - 5 && b < PAGE + 3)) fail("faults and traps do not tell a store of the witness's own");
+    if (watch.stores[0] != 2 || watch.pages_hit != 2 || watch.stray)
+        fail("faults and traps do not count the witness's own stores");
+    munmap(watch.pages, watch.size), munmap(watch.before, watch.size), munmap(watch.seen, watch.size);
+    site_count = 0;
 }
 
 /* -- What a write must have stored -- */
@@ -255,16 +284,19 @@ static void set_handlers(void) {
 static void tell_stray(const shape *s, size_t first) {
     const char *what = now->refusal ? "a refused write stores" : "a store";
     if (watch.stray_at < first || watch.stray_at - first >= array_bytes(s))
-        fail("%s outside the array, at byte %zd from its start (instruction at %#lx)", what, (ssize_t)watch.stray_at - (ssize_t)first, (unsigned long)watch.stray_by);
+        fail("%s outside the array, at byte %zd from its start (instruction at %#lx)", what,
+             (ssize_t)watch.stray_at - (ssize_t)first, (unsigned long)watch.stray_by);
     size_t at = watch.stray_at - first, unit = at / s->u, units = (size_t)s->parts * s->g;
-    fail("%s to byte %zu of disk %zu, unit %zu, outside the four ranges (instruction at %#lx)", what, at % s->u, unit / units, unit % units, (unsigned long)watch.stray_by);
+    fail("%s to byte %zu of disk %zu, unit %zu, outside the four ranges (instruction at %#lx)", what, at % s->u, unit / units,
+         unit % units, (unsigned long)watch.stray_by);
 }
 
 static void want_pages(const place four[UNITS]) {
     for (int w = 0; w < UNITS; w++) {
         size_t i = 0;
         while (i < watch.pages_hit && watch.page_hit[i] != watch.start[w] / PAGE) i++;
-        if (i == watch.pages_hit) fail("the %s (disk %u, unit %u) is not stored: its page is never faulted", NAME[w], four[w].disk, four[w].unit);
+        if (i == watch.pages_hit)
+            fail("the %s (disk %u, unit %u) is not stored: its page is never faulted", NAME[w], four[w].disk, four[w].unit);
     }
     if (watch.pages_hit != UNITS) fail("stores to more than the four units' pages");
 }
@@ -273,14 +305,17 @@ static void want_bytes(const place four[UNITS]) {
     for (int w = 0; w < UNITS; w++) {
         size_t changed = 0, first = watch.length;
         for (size_t b = watch.length; b-- > 0;) {
-            if (watch.seen[watch.start[w] + b]) changed++;
-            else first = b;
+            if (watch.seen[watch.start[w] + b])
+                changed++;
+            else
+                first = b;
         }
         if (now->same || changed == watch.length) continue;
-        if (changed == 0 && watch.stores[w]) fail("the %s (disk %u, unit %u) is stored with its old bytes", NAME[w], four[w].disk, four[w].unit);
+        if (changed == 0 && watch.stores[w])
+            fail("the %s (disk %u, unit %u) is stored with its old bytes", NAME[w], four[w].disk, four[w].unit);
         if (changed == 0) fail("the %s (disk %u, unit %u) is not stored", NAME[w], four[w].disk, four[w].unit);
-        fail("the %s (disk %u, unit %u) is not stored at %zu of %zu bytes, first at byte %zu of the range", NAME[w], four[w].disk, four[w].unit,
-             watch.length - changed, watch.length, first);
+        fail("the %s (disk %u, unit %u) is not stored at %zu of %zu bytes, first at byte %zu of the range", NAME[w], four[w].disk,
+             four[w].unit, watch.length - changed, watch.length, first);
     }
 }
 
@@ -289,7 +324,9 @@ static void want_array(const shape *s, const uint8_t *array, const uint8_t *imag
     size_t at = 0;
     while (array[at] == image[at]) at++;
     int w = unit_at(first + at);
-    if (w >= 0) fail("the %s (disk %u, unit %u) holds a wrong byte at %zu of the range", NAME[w], four[w].disk, four[w].unit, first + at - watch.start[w]);
+    if (w >= 0)
+        fail("the %s (disk %u, unit %u) holds a wrong byte at %zu of the range", NAME[w], four[w].disk, four[w].unit,
+             first + at - watch.start[w]);
     fail("byte %zu of the array is wrong at return", at);
 }
 
@@ -306,7 +343,7 @@ static void watched_call(const shape *s, uint8_t *array, const uint8_t *source) 
     for (size_t i = 0; i < 3; i++) allow(all[i]->bytes, all[i]->size, PROT_READ);
     allow(watch.pages, watch.size, PROT_READ);
     watch.on = true;
-    himzolven_answer a = WITNESS_WRITE(s->v, s->k, s->g, s->u, (const uint16_t *)(void *)design_lent.bytes, (size_t)s->rows * s->k, array, array_bytes(s),
+    himzolven_answer a = WITNESS_WRITE(s->v, s->k, s->g, s->u, design_of(), (size_t)s->rows * s->k, array, array_bytes(s),
                                        marks_lent.bytes, (size_t)s->v * s->g, now->n, now->offset, source, now->length);
     watch.on = false;
     allow(watch.pages, watch.size, PROT_READ | PROT_WRITE);
@@ -322,7 +359,7 @@ static void try_write(const trial *t, uint8_t *image) {
     static uint8_t difference[PAGE];
     place four[UNITS];
     now = t;
-    four_places(s, (const uint16_t *)(void *)design_lent.bytes, t->refusal == 10 ? 0 : t->n, four);
+    four_places(s, design_of(), t->refusal == 10 ? 0 : t->n, four);
     watch.length = t->refusal ? 0 : t->length;
     for (int w = 0; w < UNITS; w++) {
         watch.start[w] = first + start_of(s, four[w]) + t->offset;
@@ -355,9 +392,10 @@ static size_t shifts_of(const trial *t, size_t shifts[STARTS]) {
     size_t count_of = 1;
     shifts[0] = 0;
     if (!t->length) return 1;
-    four_places(t->s, (const uint16_t *)(void *)design_lent.bytes, t->n, four);
+    four_places(t->s, design_of(), t->n, four);
     for (int w = 0; w < 2 * UNITS; w++) {
-        size_t edge = start_of(t->s, four[w / 2]) + t->offset + (w % 2 ? t->length : 0), shift = (PAGE - edge % PAGE) % PAGE, i = 0;
+        size_t edge = start_of(t->s, four[w / 2]) + t->offset + (w % 2 ? t->length : 0), shift = (PAGE - edge % PAGE) % PAGE,
+               i = 0;
         while (i < count_of && shifts[i] != shift) i++;
         if (i == count_of) shifts[count_of++] = shift;
     }
@@ -374,8 +412,9 @@ static void at_edges(trial t, bool edges, uint8_t *image) {
 
 /* Full and partial ranges: those of the table that lie inside a unit, where 0 stands for u less the offset. */
 static void ranges(const shape *s, uint32_t n, bool edges, uint8_t *image) {
-    static const size_t RANGE[][2] = {{0, 0},  {1, 0},  {3, 1},   {7, 2},    {5, 3},   {9, 4},    {1, 15},    {11, 31},    {1, 36}, {1, 63},
-                                      {5, 64}, {17, 65}, {3, 67}, {33, 127}, {9, 129}, {63, 130}, {129, 191}, {513, 1000}, {0, 1},  {0, 64}};
+    static const size_t RANGE[][2] = {{0, 0},   {1, 0},    {3, 1},     {7, 2},      {5, 3},   {9, 4},  {1, 15},
+                                      {11, 31}, {1, 36},   {1, 63},    {5, 64},     {17, 65}, {3, 67}, {33, 127},
+                                      {9, 129}, {63, 130}, {129, 191}, {513, 1000}, {0, 1},   {0, 64}};
     for (size_t i = 0; i < sizeof RANGE / sizeof *RANGE; i++) {
         size_t offset = RANGE[i][0], length = RANGE[i][1];
         if (offset >= s->u || length > s->u - offset) continue;
@@ -397,7 +436,7 @@ static void lengths(const shape *s, uint32_t n, uint8_t *image) {
 static void refusals(const shape *s, uint32_t n, uint8_t *image) {
     place four[UNITS];
     uint32_t fifth = 0;
-    four_places(s, (const uint16_t *)(void *)design_lent.bytes, n, four);
+    four_places(s, design_of(), n, four);
     for (int w = 0; w < UNITS; w++) {
         marks_lent.bytes[four[w].disk] = 1;
         try_write(&(trial){.s = s, .n = n, .length = s->u, .refusal = 12, .place = four[w].disk}, image);
@@ -414,10 +453,11 @@ static void refusals(const shape *s, uint32_t n, uint8_t *image) {
 
 static void same_places(const shape *s, uint32_t n) {
     place four[UNITS];
-    const uint16_t *design = (const uint16_t *)(void *)design_lent.bytes;
+    const uint16_t *design = design_of();
     four_places(s, design, n, four);
     himzolven_map_answer m = himzolven_map(s->v, s->k, s->g, s->u, design, (size_t)s->rows * s->k, n);
-    const place mapped[UNITS] = {{m.data_disk, m.data_unit}, {m.outer_disk, m.outer_unit}, {m.inner_disk, m.inner_unit}, {m.both_disk, m.both_unit}};
+    const place mapped[UNITS] = {
+        {m.data_disk, m.data_unit}, {m.outer_disk, m.outer_unit}, {m.inner_disk, m.inner_unit}, {m.both_disk, m.both_unit}};
     for (int w = 0; w < UNITS; w++)
         if (m.refusal || mapped[w].disk != four[w].disk || mapped[w].unit != four[w].unit)
             fail("%s, user unit %u: himzolven_map and document 01 differ over the %s", s->name, n, NAME[w]);
@@ -427,8 +467,8 @@ static void same_places(const shape *s, uint32_t n) {
 static void format(const shape *s, uint8_t *image) {
     size_t bytes = array_bytes(s), disks = (size_t)s->v * s->g;
     memset(marks_lent.bytes, 1, disks);
-    himzolven_answer a = himzolven_format(s->v, s->k, s->g, s->u, (const uint16_t *)(void *)design_lent.bytes, (size_t)s->rows * s->k, image, bytes,
-                                          marks_lent.bytes, disks);
+    himzolven_answer a =
+        himzolven_format(s->v, s->k, s->g, s->u, design_of(), (size_t)s->rows * s->k, image, bytes, marks_lent.bytes, disks);
     if (a.refusal) fail("%s, u = %u: format is refused by %u", s->name, s->u, a.refusal);
     for (size_t b = 0; b < bytes; b++)
         if (image[b]) fail("%s, u = %u: byte %zu is not zero after format", s->name, s->u, b);
@@ -463,7 +503,7 @@ static void cases(const shape *s) {
 static void designs(void) {
     static const uint16_t F[21] = {0, 2, 6, 0, 1, 3, 1, 2, 4, 2, 3, 5, 3, 4, 6, 0, 4, 5, 1, 5, 6};
     static const uint32_t U[] = {100, 64, 37, 1, 512, PAGE};
-    uint16_t *design = (uint16_t *)(void *)design_lent.bytes;
+    uint16_t *design = design_of();
     for (size_t i = 0; i < sizeof U / sizeof *U; i++) {
         memcpy(design, F, sizeof F);
         cases(&(shape){"design F, g = 3", 7, 3, 3, U[i], 7, 3});
@@ -480,7 +520,8 @@ static void print_sites(const char *path) {
     if (!out) fail("%s can't be written", path);
     for (size_t i = 0; i < site_count; i++)
         for (int w = 0; w < UNITS; w++)
-            if (sites[i].stores[w]) fprintf(out, "%#lx %d %zu %zu\n", (unsigned long)sites[i].at, w, sites[i].stores[w], sites[i].most[w]);
+            if (sites[i].stores[w])
+                fprintf(out, "%#lx %d %zu %zu\n", (unsigned long)sites[i].at, w, sites[i].stores[w], sites[i].most[w]);
     if (fclose(out)) fail("%s can't be written", path);
 }
 
@@ -490,13 +531,17 @@ int main(int words, char **word) {
         return 2;
     }
     if (sysconf(_SC_PAGESIZE) != PAGE) fail("a page is not 4096 bytes");
-    design_lent.bytes = pages(design_lent.size), marks_lent.bytes = pages(marks_lent.size), source_lent.bytes = pages(source_lent.size);
+    design_lent.bytes = pages(design_lent.size), marks_lent.bytes = pages(marks_lent.size),
+    source_lent.bytes = pages(source_lent.size);
     set_handlers();
+    probe();
     designs();
     if (words == 3) print_sites(word[2]);
-    printf("witness: 3 designs, 6 unit sizes: %zu writes, %zu stores (data %zu, outer %zu, inner of data %zu, inner of outer %zu) by %zu instructions: "
+    printf("witness: 3 designs, 6 unit sizes: %zu writes, %zu stores (data %zu, outer %zu, inner of data %zu, inner of outer "
+           "%zu) by %zu instructions: "
            "each byte of the four ranges, no other\n",
            writes, total[0] + total[1] + total[2] + total[3], total[0], total[1], total[2], total[3], site_count);
-    printf("witness: %zu empty and %zu refused writes: no store; %zu writes of the bytes already there: nothing changed\n", none, refused, unchanged);
+    printf("witness: %zu empty and %zu refused writes: no store; %zu writes of the bytes already there: nothing changed\n", none,
+           refused, unchanged);
     return 0;
 }
