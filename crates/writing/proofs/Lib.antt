@@ -1,6 +1,3 @@
-pub mod Members
-pub mod Sets
-pub mod Lost
 pub mod Reasons
 pub mod Twelve
 pub mod Places
@@ -10,3 +7,5 @@ pub mod Bytes
 pub mod Starts
 pub mod Theorems
 pub mod Accepted
+pub mod Members
+pub mod Sets
