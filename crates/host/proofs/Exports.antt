@@ -27,6 +27,9 @@ use Rattle.array.proofs.Reasons.{array-exact}
 use Rattle.reading.specs.Reading.{readRules}
 use Rattle.reading.specs.Reasons.{readRows}
 use Rattle.reading.proofs.Reasons.{read-exact}
+use Rattle.writing.specs.Writing.{writeRules}
+use Rattle.writing.specs.Reasons.{writeRows}
+use Rattle.writing.proofs.Reasons.{write-exact}
 use Rattle.host.specs.declared.Answer.{Answer}
 use Rattle.host.specs.declared.SizesAnswer.{SizesAnswer}
 use Rattle.host.specs.declared.MapAnswer.{MapAnswer}
@@ -41,6 +44,7 @@ use Rattle.host.proofs.himzolven_map.Reads as map
 use Rattle.host.proofs.himzolven_role.Reads as role
 use Rattle.host.proofs.himzolven_format.Reads as format
 use Rattle.host.proofs.himzolven_read.Reads as read
+use Rattle.host.proofs.himzolven_write.Reads as write
 
 -- what each contract allows
 abbrev pub FillAllowed : Lfts 1 → ℕ → RefT (List ℕ) → Answer → RefT (List ℕ) → Type 0
@@ -72,6 +76,13 @@ abbrev pub ReadAllowed :
 ReadAllowed κs v k g u design array marks n offset bytes r last =
     read.Post κs (v, (k, (g, (u, (design, (array, (marks, (n, (offset, (bytes, tt)))))))))) r
     (v, (k, (g, (u, (design, (array, (marks, (n, (offset, (last, tt))))))))))
+
+abbrev pub WriteAllowed :
+    Lfts 4 → (v k g u : ℕ) → (design array marks : RefT (List ℕ)) → (n offset : ℕ) → RefT (List ℕ) → Answer → RefT (List ℕ) →
+    Type 0
+WriteAllowed κs v k g u design array marks n offset bytes r last =
+    write.Post κs (v, (k, (g, (u, (design, (array, (marks, (n, (offset, (bytes, tt)))))))))) r
+    (v, (k, (g, (u, (design, (last, (marks, (n, (offset, (bytes, tt))))))))))
 
 -- what C is told
 
@@ -130,6 +141,16 @@ read-told κs v k g u design array marks n offset bytes last r p =
     (lit< tt, (lit< tt, (lit< tt, (lit< tt, (lit< tt, (lit< tt, (lit< tt, (lit< tt, (lit< tt, (lit< tt, tt)))))))))) (read-exact (geometry v k g u) (now design) (length (now array)) (now marks) n offset (length (now bytes)) tt)
     (front-answer (verdict rules) r (p .0))
 
+pub write-told :
+    (κs : Lfts 4) (v k g u : ℕ) (design array marks : RefT (List ℕ)) (n offset : ℕ) (bytes last : RefT (List ℕ)) (r : Answer) →
+    WriteAllowed κs v k g u design array marks n offset bytes r last →
+    Told (writeRows (geometry v k g u) (now design) (length (now array)) (now marks) n offset (length (now bytes))) (r .refusal) (r .place)
+write-told κs v k g u design array marks n offset bytes last r p =
+    let rules = writeRules (geometry v k g u) (now design) (length (now array)) (now marks) n offset (length (now bytes)) in
+    front-tells (writeRows (geometry v k g u) (now design) (length (now array)) (now marks) n offset (length (now bytes))) (verdict rules) (r .refusal) (r .place)
+    (lit< tt, (lit< tt, (lit< tt, (lit< tt, (lit< tt, (lit< tt, (lit< tt, (lit< tt, (lit< tt, (lit< tt, tt)))))))))) (write-exact (geometry v k g u) (now design) (length (now array)) (now marks) n offset (length (now bytes)) tt)
+    (front-answer (verdict rules) r (p .0))
+
 -- two answers are one
 
 pub fill-two-results :
@@ -168,3 +189,9 @@ pub read-two-results :
     ReadAllowed κs v k g u design array marks n offset bytes r x → ReadAllowed κs v k g u design array marks n offset bytes s y →
     (r ≡ s) × (now x ≡ now y)
 read-two-results κs v k g u design array marks n offset bytes x y r s p q = (p .0 ∙ sym (q .0), p .1 ∙ sym (q .1))
+
+pub write-two-results :
+    (κs : Lfts 4) (v k g u : ℕ) (design array marks : RefT (List ℕ)) (n offset : ℕ) (bytes x y : RefT (List ℕ)) (r s : Answer) →
+    WriteAllowed κs v k g u design array marks n offset bytes r x → WriteAllowed κs v k g u design array marks n offset bytes s y →
+    (r ≡ s) × (now x ≡ now y)
+write-two-results κs v k g u design array marks n offset bytes x y r s p q = (p .0 ∙ sym (q .0), p .1 ∙ sym (q .1))

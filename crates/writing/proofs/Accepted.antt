@@ -22,11 +22,13 @@ use Rattle.array.specs.Rules.{arrayRules, rangeRules}
 use Rattle.array.proofs.Fits.{ready}
 use Rattle.array.proofs.Range.{ranged}
 use Rattle.array.proofs.Kept.{kept-new}
+use Rattle.consistent.specs.Consistent.{Consistent}
 use Rattle.reading.specs.Reading.{readOf, readRules}
 use Rattle.reading.proofs.TwoResults as read
 use Rattle.writing.specs.Writing.{fourLost, writeRules}
 use Rattle.writing.specs.Theorems.{Range, SameDifference}
 use Rattle.writing.proofs.Reasons.{twelfth, names-user}
+use Rattle.writing.proofs.Sets.{a-write-keeps-a-consistent-array-consistent}
 use Rattle.writing.proofs.Theorems.{a-write-puts-one-difference-into-four-units, a-read-after-a-write}
 use Rattle.writing.proofs.Theorems.{other-user-units-keep-their-bytes}
 use Rattle.writing.proofs.TwoResults.{Allowed, write-accepted}
@@ -86,6 +88,12 @@ module _ (κs : Lfts 4) (G : Geometry) (design array marks : RefT (List ℕ)) (n
   accepted-others w l e =
       rw (write-accepted κs G design array marks n offset bytes x p)
       (other-user-units-keep-their-bytes G (now design) (now array) (n .0) offset (now bytes) range w l e)
+
+  -- "keeps consistent what was"
+  pub accepted-consistent : Consistent G (now design) (now array) → Consistent G (now design) (now x)
+  accepted-consistent c =
+      rw (write-accepted κs G design array marks n offset bytes x p)
+      (a-write-keeps-a-consistent-array-consistent G (now design) (now array) (n .0) offset (now bytes) range c)
 
   -- "After a write a read of the range gives the written bytes": it is accepted
   module _ (ρs : Lfts 4) (out : RefT (List ℕ)) (long : length (now out) ≡ length (now bytes)) where
