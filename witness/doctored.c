@@ -9,6 +9,7 @@
  *   6 a refused write stores
  *   7 a mark is stored
  *   8 the last range is stored, but with its old bytes
+ *   9 the leaf stores three where the range is a whole unit of 4096 bytes
  *
  * The stores are volatile, so that a compiler leaves each as it is written here. */
 #include "himzolven.h"
@@ -29,7 +30,8 @@ static void add(uint8_t *unit, const uint8_t *difference, size_t length) {
 /* The same difference at four places. */
 static void add_four(uint8_t *array, const size_t at[4], const uint8_t *difference, size_t length) {
     static const uint8_t nothing[4096];
-    for (int w = 0; w < (FAULT == 1 ? 3 : 4); w++)
+    int stores = FAULT == 1 || (FAULT == 9 && length == 4096) ? 3 : 4;
+    for (int w = 0; w < stores; w++)
         add(array + at[w], FAULT == 8 && w == 3 ? nothing : difference, FAULT == 2 && w == 3 ? length - 1 : length);
     if (FAULT == 3) *(volatile uint8_t *)(array + at[0] - 1) ^= 0;
     if (FAULT == 4) *(volatile pair *)(array + at[3] + length - 1) ^= 0;

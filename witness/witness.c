@@ -6,10 +6,10 @@
  * The array lies in pages that may only be read. Each store faults; the handler notes its address, opens the page and sets the
  * trap flag, so that after that one instruction the next handler notes which bytes it changed and shuts the page again. The
  * written bytes differ from the old ones everywhere, so each byte of the four ranges must change, and none may be stored to
- * elsewhere, whether it changes or not. So that no store can reach over the end of a range unseen, each write is repeated
- * with the array moved until a page begins, then ends, where a range does. At u = 4096 the pages stored to are held against
- * the four units' pages. Design, marks and source may only be read too. The places are computed here, from document 01
- * alone, and held against himzolven_map.
+ * elsewhere, whether it changes or not. So that no store can reach over the end of a range unseen, the writes of the first and
+ * the last user unit are repeated with the array moved until a page begins, then ends, where a range does. At u = 4096 the
+ * pages stored to are held against the four units' pages. Design, marks and source may only be read too. The places are
+ * computed here, from document 01 alone, and held against himzolven_map.
  *
  * FILE gets a line for each instruction that stored: its address, the unit (0 to 3), how often, and the most bytes at once.
  * x86-64 Linux; no privilege is needed. */
@@ -111,14 +111,14 @@ typedef struct {
 } site;
 
 static struct {
-    uint8_t *pages, *before,
-        *seen; /* the pages around the array; their bytes before the instruction; 1 where a store changed a byte */
-    size_t size, start[UNITS], length;
+    uint8_t *pages, *before, *seen; /* those around the array; their bytes before the instruction; 1: a store changed the byte */
+    size_t size, start[UNITS], length; /* of the pages; the four ranges, from the first page on */
     uintptr_t by; /* the instruction under way: the pages it opened, where it faulted, what it touched and changed */
     uint8_t *open[OPEN];
     size_t opened, faults[OPEN], changed[UNITS];
     bool touched[UNITS];
-    bool on, stray; /* a store outside the four ranges: where, and by which instruction */
+    bool on;    /* the call is under way */
+    bool stray; /* a store outside the four ranges: where, and by which instruction */
     size_t stray_at;
     uintptr_t stray_by;
     size_t stores[UNITS], pages_hit, page_hit[UNITS + 1];
@@ -242,7 +242,7 @@ static void on_step(int number, siginfo_t *info, void *context) {
     ((ucontext_t *)context)->uc_mcontext.gregs[REG_EFL] &= ~(greg_t)TRAP_FLAG;
 }
 
-static void catch (int number, void (*handler)(int, siginfo_t *, void *)) {
+static void handle(int number, void (*handler)(int, siginfo_t *, void *)) {
     struct sigaction how;
     memset(&how, 0, sizeof how);
     how.sa_sigaction = handler;
@@ -254,8 +254,8 @@ static void catch (int number, void (*handler)(int, siginfo_t *, void *)) {
 static void set_handlers(void) {
     stack_t own = {.ss_sp = pages(16 * PAGE), .ss_size = 16 * PAGE};
     if (sigaltstack(&own, NULL)) fail("sigaltstack failed");
-    catch (SIGSEGV, on_fault);
-    catch (SIGTRAP, on_step);
+    handle(SIGSEGV, on_fault);
+    handle(SIGTRAP, on_step);
 }
 
 /* One store of the witness's own over the edge of two pages, then one more: without faults and traps it would see nothing. */
@@ -282,13 +282,13 @@ static void probe(void) {
 /* -- What a write must have stored -- */
 
 static void tell_stray(const shape *s, size_t first) {
-    const char *what = now->refusal ? "a refused write stores" : "a store";
+    const char *what = now->refusal ? "a refused write stores" : "a store outside the four ranges,";
     if (watch.stray_at < first || watch.stray_at - first >= array_bytes(s))
         fail("%s outside the array, at byte %zd from its start (instruction at %#lx)", what,
              (ssize_t)watch.stray_at - (ssize_t)first, (unsigned long)watch.stray_by);
     size_t at = watch.stray_at - first, unit = at / s->u, units = (size_t)s->parts * s->g;
-    fail("%s to byte %zu of disk %zu, unit %zu, outside the four ranges (instruction at %#lx)", what, at % s->u, unit / units,
-         unit % units, (unsigned long)watch.stray_by);
+    fail("%s to byte %zu of disk %zu, unit %zu (instruction at %#lx)", what, at % s->u, unit / units, unit % units,
+         (unsigned long)watch.stray_by);
 }
 
 static void want_pages(const place four[UNITS]) {
@@ -346,6 +346,7 @@ static void watched_call(const shape *s, uint8_t *array, const uint8_t *source) 
     himzolven_answer a = WITNESS_WRITE(s->v, s->k, s->g, s->u, design_of(), (size_t)s->rows * s->k, array, array_bytes(s),
                                        marks_lent.bytes, (size_t)s->v * s->g, now->n, now->offset, source, now->length);
     watch.on = false;
+    if (watch.opened) fail("no trap came after the store at %#lx", (unsigned long)watch.by);
     allow(watch.pages, watch.size, PROT_READ | PROT_WRITE);
     for (size_t i = 0; i < 3; i++) allow(all[i]->bytes, all[i]->size, PROT_READ | PROT_WRITE);
     if (a.refusal != now->refusal || a.place != now->place)
@@ -394,8 +395,8 @@ static size_t shifts_of(const trial *t, size_t shifts[STARTS]) {
     if (!t->length) return 1;
     four_places(t->s, design_of(), t->n, four);
     for (int w = 0; w < 2 * UNITS; w++) {
-        size_t edge = start_of(t->s, four[w / 2]) + t->offset + (w % 2 ? t->length : 0), shift = (PAGE - edge % PAGE) % PAGE,
-               i = 0;
+        size_t edge = start_of(t->s, four[w / 2]) + t->offset + (w % 2 ? t->length : 0);
+        size_t shift = (PAGE - edge % PAGE) % PAGE, i = 0;
         while (i < count_of && shifts[i] != shift) i++;
         if (i == count_of) shifts[count_of++] = shift;
     }
@@ -537,11 +538,10 @@ int main(int words, char **word) {
     probe();
     designs();
     if (words == 3) print_sites(word[2]);
-    printf("witness: 3 designs, 6 unit sizes: %zu writes, %zu stores (data %zu, outer %zu, inner of data %zu, inner of outer "
-           "%zu) by %zu instructions: "
-           "each byte of the four ranges, no other\n",
-           writes, total[0] + total[1] + total[2] + total[3], total[0], total[1], total[2], total[3], site_count);
-    printf("witness: %zu empty and %zu refused writes: no store; %zu writes of the bytes already there: nothing changed\n", none,
-           refused, unchanged);
+    printf("witness: 3 designs, 6 unit sizes: %zu writes of new bytes: each byte of the four ranges stored, no other\n", writes);
+    printf("witness: %zu writes of the bytes already there: nothing changed; %zu empty and %zu refused writes: no store\n",
+           unchanged, none, refused);
+    printf("witness: %zu stores by %zu instructions: data %zu, outer %zu, inner of data %zu, inner of outer %zu\n",
+           total[0] + total[1] + total[2] + total[3], site_count, total[0], total[1], total[2], total[3]);
     return 0;
 }
