@@ -14,6 +14,10 @@ FLAGS = ["-std=c11", "-O2", "-Wall", "-Wextra", "-Wpedantic", "-Wconversion", "-
 # the four units of a write, in the order and by the names of witness.c
 UNITS = ["data unit", "outer parity", "inner parity of the data", "inner parity of the outer parity"]
 
+PREFIXES = r"(?:data16 |cs |ds |es |lock |rep\w* )*"
+# with a memory operand first, these read it or only name it
+READERS = r"(?:cmp|test|lea|nop|call|jmp|push|mul|imul|div|idiv|bt|prefetch\w*|u?comis[sd]|v?ptest|fld)\b"
+
 Site = namedtuple("Site", "address unit stores most")  # an instruction that stored to a unit: how often, the most bytes at once
 Instruction = namedtuple("Instruction", "address code text function start")  # start: the function's address
 
@@ -70,6 +74,20 @@ def instructions(path):
             text = re.sub(r"\s+# [0-9a-f]+ <.*>$", "", row[3])
             out.append(Instruction(int(row[1], 16), bytes.fromhex(row[2]), " ".join(text.split()), function, start))
     return out
+
+
+def other_stores(linked, functions, sites):
+    """The stores of these functions that are no sites: how many go to the stack, [rsp ..], and the others."""
+    stack, other, seen = 0, [], {s.address for s in sites}
+    for i in linked:
+        operand = re.match(PREFIXES + r"(\w+) ([^,]*\[[^\]]*\])", i.text)
+        if i.function not in functions or i.address in seen or not operand or re.match(READERS, operand[1]):
+            continue
+        if re.search(r"\[(?:[a-z0-9]+\*\d\+)?rsp\b", operand[2]):
+            stack += 1
+        else:
+            other.append(i)
+    return stack, other
 
 
 def file_offset(elf, address):

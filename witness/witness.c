@@ -1,7 +1,7 @@
 /* The store witness: shows to which bytes the machine code of a write stores. "The compiler took the last parity buffer for
  * dead, because only the disk controller reads it, and dropped the store": no proof of the source sees that, a page fault does.
  *
- * usage: witness [--sites FILE]
+ * usage: witness [--sites FILE] [--unit U]
  *
  * The array lies in pages that may only be read. Each store faults; the handler notes its address, opens the page and sets the
  * trap flag, so that after that one instruction the next handler notes which bytes it changed and shuts the page again. The
@@ -11,7 +11,8 @@
  * pages stored to are held against the four units' pages. Design, marks and source may only be read too. The places are
  * computed here, from document 01 alone, and held against himzolven_map.
  *
- * FILE gets a line for each instruction that stored: its address, the unit (0 to 3), how often, and the most bytes at once.
+ * FILE gets a line for each instruction that stored: its address, the unit (0 to 3), how often, and the most bytes at once. With
+ * --unit, only units of U bytes are tried.
  * x86-64 Linux; no privilege is needed. */
 #ifndef _GNU_SOURCE
 #define _GNU_SOURCE
@@ -501,19 +502,16 @@ static void cases(const shape *s) {
 }
 
 /* Design F (document 000, equation 1), the held design of 13 groups, the complete graph on 5. */
-static void designs(void) {
+static void designs(uint32_t u) {
     static const uint16_t F[21] = {0, 2, 6, 0, 1, 3, 1, 2, 4, 2, 3, 5, 3, 4, 6, 0, 4, 5, 1, 5, 6};
-    static const uint32_t U[] = {100, 64, 37, 1, 512, PAGE};
     uint16_t *design = design_of();
-    for (size_t i = 0; i < sizeof U / sizeof *U; i++) {
-        memcpy(design, F, sizeof F);
-        cases(&(shape){"design F, g = 3", 7, 3, 3, U[i], 7, 3});
-        if (himzolven_fill(13, design, 52).refusal) fail("no held design of 13 groups");
-        cases(&(shape){"held design of 13 groups, g = 5", 13, 4, 5, U[i], 13, 4});
-        for (uint16_t a = 0, at = 0; a < 5; a++)
-            for (uint16_t b = (uint16_t)(a + 1); b < 5; b++) design[at++] = a, design[at++] = b;
-        cases(&(shape){"complete graph on 5 groups, g = 3", 5, 2, 3, U[i], 10, 4});
-    }
+    memcpy(design, F, sizeof F);
+    cases(&(shape){"design F, g = 3", 7, 3, 3, u, 7, 3});
+    if (himzolven_fill(13, design, 52).refusal) fail("no held design of 13 groups");
+    cases(&(shape){"held design of 13 groups, g = 5", 13, 4, 5, u, 13, 4});
+    for (uint16_t a = 0, at = 0; a < 5; a++)
+        for (uint16_t b = (uint16_t)(a + 1); b < 5; b++) design[at++] = a, design[at++] = b;
+    cases(&(shape){"complete graph on 5 groups, g = 3", 5, 2, 3, u, 10, 4});
 }
 
 static void print_sites(const char *path) {
@@ -527,18 +525,28 @@ static void print_sites(const char *path) {
 }
 
 int main(int words, char **word) {
-    if (words != 1 && !(words == 3 && !strcmp(word[1], "--sites"))) {
-        fprintf(stderr, "usage: witness [--sites FILE]\n");
-        return 2;
+    static const uint32_t U[] = {100, 64, 37, 1, 512, PAGE};
+    const char *listed = NULL;
+    uint32_t only = 0;
+    for (int i = 1; i < words; i += 2) {
+        if (i + 1 < words && !strcmp(word[i], "--sites"))
+            listed = word[i + 1];
+        else if (i + 1 < words && !strcmp(word[i], "--unit"))
+            only = (uint32_t)strtoul(word[i + 1], NULL, 10);
+        else
+            return fprintf(stderr, "usage: witness [--sites FILE] [--unit U]\n"), 2;
     }
     if (sysconf(_SC_PAGESIZE) != PAGE) fail("a page is not 4096 bytes");
-    design_lent.bytes = pages(design_lent.size), marks_lent.bytes = pages(marks_lent.size),
+    design_lent.bytes = pages(design_lent.size), marks_lent.bytes = pages(marks_lent.size);
     source_lent.bytes = pages(source_lent.size);
     set_handlers();
     probe();
-    designs();
-    if (words == 3) print_sites(word[2]);
-    printf("witness: 3 designs, 6 unit sizes: %zu writes of new bytes: each byte of the four ranges stored, no other\n", writes);
+    for (size_t i = 0; i < sizeof U / sizeof *U; i++)
+        if (!only || only == U[i]) designs(U[i]);
+    if (!writes) fail("no unit size of %u", only);
+    if (listed) print_sites(listed);
+    printf("witness: 3 designs, %s: %zu writes of new bytes: each byte of the four ranges stored, no other\n",
+           only ? "one unit size" : "6 unit sizes", writes);
     printf("witness: %zu writes of the bytes already there: nothing changed; %zu empty and %zu refused writes: no store\n",
            unchanged, none, refused);
     printf("witness: %zu stores by %zu instructions: data %zu, outer %zu, inner of data %zu, inner of outer %zu\n",
