@@ -1,15 +1,12 @@
 /* One call, proved or plain, many times: run under callgrind to count instructions, or alone to measure stack.
  * usage: calls proved|plain check|map|role V K G COUNT   or   calls stack V K G */
-#define _GNU_SOURCE
 #include <inttypes.h>
 #include <stdio.h>
 #include <stdlib.h>
 #include <string.h>
-#include <ucontext.h>
 
 #include "plain.h"
-
-enum { ROOM = 65536, PAINT = 0xA5 };
+#include "stack.h"
 
 static uint16_t design[8192];
 static size_t length;
@@ -57,27 +54,15 @@ static void once(int proved, const char *call, uint32_t i) {
     }
 }
 
-static ucontext_t home, away;
 static const char *stacked;
 
 static void on_stack(void) {
     once(1, stacked, 1);
 }
 
-/* how much of a painted stack one call touches */
 static size_t touched(const char *call) {
-    static unsigned char room[ROOM];
-    memset(room, PAINT, sizeof room);
-    getcontext(&away);
-    away.uc_stack.ss_sp = room;
-    away.uc_stack.ss_size = sizeof room;
-    away.uc_link = &home;
     stacked = call;
-    makecontext(&away, on_stack, 0);
-    swapcontext(&home, &away);
-    size_t clean = 0;
-    while (clean < sizeof room && room[clean] == PAINT) clean++;
-    return sizeof room - clean;
+    return stack_touched(on_stack);
 }
 
 int main(int argc, char **argv) {

@@ -1,0 +1,50 @@
+/* The byte work of the calls in C, for the benchmark: given the places, with no check. */
+#ifndef CONTEST_H
+#define CONTEST_H
+
+#include <stddef.h>
+#include <stdint.h>
+
+enum { LIST_MAX = 8190, UNIT_MAX = 4096, SOURCES_MAX = 13 };
+
+/* A design and a geometry with what follows from them; `part` has the part number of each entry of the list. */
+typedef struct {
+    uint32_t v, k, g, u, tuples, users, disks;
+    size_t length, disk_bytes, bytes;
+    uint16_t design[LIST_MAX];
+    uint16_t part[LIST_MAX];
+} shape;
+
+/* the four units of a user unit: data, outer parity, inner parity of each */
+typedef struct {
+    size_t at[4];
+    uint32_t disk[4];
+} places;
+
+typedef struct {
+    uint32_t bad, lowest;
+} found;
+
+/* writes n bytes over the unit at[0] and keeps the sums of the three others */
+typedef void writer(uint8_t *array, const size_t at[4], const uint8_t *bytes, size_t n);
+/* whether the XOR of the units is anything but zero */
+typedef int tester(const uint8_t *array, const size_t *starts, size_t count, size_t u);
+
+places places_of(const shape *s, uint32_t user);
+found walk(const shape *s, const uint8_t *array, tester *differs);
+
+/* one source a pass, through a buffer: difference and four XORs; clear, an XOR for each source, OR */
+writer passes_write;
+tester passes_differ;
+/* all units in one loop */
+writer fused_write;
+tester fused_differ;
+/* ISA-L, where it is installed */
+writer isal_write;
+tester isal_differ;
+const char *isal_version(void);
+
+/* every byte once, for the limit of reading */
+uint64_t read_all(const uint8_t *array, size_t n);
+
+#endif

@@ -1,0 +1,151 @@
+"""Times the byte calls beside C in one run: builds target/bytes, runs it for each case, and makes the tables."""
+import subprocess
+
+from tables import prose, table
+
+CASES = [(v, k, g, u) for v, k, g in ((7, 3, 3), (13, 4, 11), (21, 5, 11), (91, 10, 11)) for u in (512, 4096)]
+ROUNDS = 7
+WARNINGS = ("-std=c11", "-Wall", "-Wextra", "-Werror", "-Iinclude")
+C = {"passes": "same passes", "fused": "fused C", "isal": "ISA-L"}
+
+ABOUT = f"""
+Ratios are C time over library time from one run: above 1 the library is the faster. "Same passes": one source a pass through a
+buffer; "fused": all units in one loop (`bench/contest.c`, gcc -O3, SSE2). From memory: arrays side by side, together larger than
+the last cache, visited in turn. Hot: one unit again and again, or one array where it fits the second cache. The contestants run
+in turn, batch by batch; the figure is the median batch of a round, in the best of {ROUNDS} rounds, in time of the thread. Before
+any timing the contestants are compared: equal arrays after equal writes, equal audits after flipped bytes. A share is the time
+that the bytes take at the memory limit over the call's time: for a write 4u bytes copied (it can pass 1: memcpy reads what it
+overwrites), for an audit the array read once (most of it is in two sets). Empty: not measured, or less than a twentieth of what
+was taken off.
+"""
+WRITE = """
+Write of whole units at scattered user units, ns: an accepted write less the same call refused by the mark of its last disk. The C
+contestants run after that refused call, and it is taken off them too.
+"""
+AUDIT = "Audit of a formatted array, us, the design check included. C is given the places and checks nothing."
+FORMAT = "Format, us, the check included, beside memset of array and marks, which checks nothing."
+READ = "Read of whole units, ns, less the same call refused by the mark of the data disk, beside memcpy of the unit."
+LIMITS = "Memory limits, GB/s: what memcpy copies, memset sets and a loop reads of one array from memory."
+
+
+def has_isal(say):
+    try:
+        say("gcc", "-E", "-include", "isa-l.h", "-x", "c", "/dev/null")
+    except subprocess.CalledProcessError:
+        return False
+    return True
+
+
+def build(say, archive):
+    """The C that is compared gets -O3 and SSE2, as the library has; not position independent, so that addresses are its own."""
+    say("gcc", "-O3", "-msse2", *WARNINGS, "-c", "-o", "target/contest.o", "bench/contest.c")
+    isal = []
+    if has_isal(say):
+        say("gcc", "-O3", *WARNINGS, "-c", "-o", "target/isal.o", "bench/isal.c")
+        isal = ["-DWITH_ISAL", "target/isal.o", "-lisal"]
+    flags = ("-O2", "-no-pie", f"-DROUNDS={ROUNDS}", *WARNINGS)
+    say("gcc", *flags, "-o", "target/bytes", "bench/bytes.c", "bench/stack.c", "target/contest.o", archive, *isal)
+
+
+def shown(x, form="{:.2f}"):
+    return "" if x is None else form.format(x)
+
+
+class Case:
+    """One case's figures: ns of each contestant by call, where and name, the bytes of an array and how many there were."""
+
+    def __init__(self, say, case):
+        self.u, self.told = case[3], {}
+        self.head = [case[0], case[2], case[3]]
+        for line in say("target/bytes", "time", *case).splitlines():
+            call, where, name, value = line.split()
+            self.told[call, where, name] = float(value)
+        self.bytes, self.arrays = self.told["bytes", "-", "-"], self.told["arrays", "-", "-"]
+
+    def ns(self, call, where, name="library", less=False):
+        """With `less`, what the refused call takes is off; what is then small is lost in it."""
+        whole = self.told.get((call, where, name))
+        off = self.told[call, where, "refused"] if whole and less else 0
+        return whole - off if whole and whole - off > off / 20 else None
+
+    def ratio(self, call, where, name, less=False):
+        other, own = self.ns(call, where, name, less), self.ns(call, where, "library", less)
+        return other / own if other and own else None
+
+    def ratios(self, call, where, less=False):
+        known = {n for c, _, n in self.told if c == call}
+        return [shown(self.ratio(call, where, n, less)) if n in known else "not installed" for n in C]
+
+    def rate(self, name):
+        """Bytes a ns of a memory limit. memcpy copies one half of an array onto the other."""
+        return self.bytes / (2 if name == "memcpy" else 1) / self.told["limit", "memory", name]
+
+    def share(self, call, moved, limit, less=False):
+        own = self.ns(call, "memory", "library", less)
+        return shown(moved / self.rate(limit) / own if own else None)
+
+
+def write_row(c):
+    row = [shown(c.ns("write", "memory", n, n == "library"), "{:.0f}") for n in ("refused", "library")]
+    row += c.ratios("write", "memory", True) + [c.share("write", 4 * c.u, "memcpy", True)]
+    return row + [shown(c.ns("write", "hot", "library", True), "{:.0f}")] + c.ratios("write", "hot", True)
+
+
+def audit_row(c):
+    row = [f"{c.ns('audit', 'memory', n) / 1000:.1f}" for n in ("library", "refused")]
+    return row + c.ratios("audit", "memory") + [c.share("audit", c.bytes, "read")] + c.ratios("audit", "hot")
+
+
+def format_row(c):
+    row = [f"{c.ns('format', 'memory', n) / 1000:.1f}" for n in ("library", "refused")]
+    row += [shown(c.ratio("format", "memory", "memset")), c.share("format", c.bytes, "memset")]
+    return row + [shown(c.ratio("format", "hot", "memset"))]
+
+
+def read_row(c):
+    row = [shown(c.ns("read", "memory", n, n == "library"), "{:.0f}") for n in ("refused", "library")]
+    row += [shown(c.ratio("read", "memory", "memcpy", True)), c.share("read", c.u, "read", True)]
+    return row + [shown(c.ns("read", "hot", "library", True), "{:.0f}"), shown(c.ratio("read", "hot", "memcpy", True))]
+
+
+def limit_row(c):
+    return [f"{c.bytes / 1e6:.1f}", f"{c.arrays:.0f}"] + [f"{c.rate(n):.1f}" for n in ("memcpy", "memset", "read")]
+
+
+def part(about, heads, row, cases):
+    return ["", prose(about), "", *table(["v", "g", "u"] + heads, [c.head + row(c) for c in cases])]
+
+
+def verdict(what, least, got):
+    """What was asked for, the lowest, and where it is missed."""
+    missed = ["v = {}, g = {}, u = {}: ".format(*c.head) + (shown(r) or "lost") for c, r in got if not r or r < least]
+    lowest = min((r for _, r in got if r), default=0)
+    return f"- {what}: at least {least} asked, lowest {lowest:.2f}" + (f"; missed at {'; '.join(missed)}." if missed else ".")
+
+
+def verdicts(cases):
+    def got(call, name, less=False, sizes=(512, 4096)):
+        return [(c, c.ratio(call, "memory", name, less)) for c in cases if c.u in sizes]
+
+    out = [verdict("write from memory, beside C with the same passes", 1.2, got("write", "passes", True))]
+    out += [verdict("audit from memory, beside C with the same passes", 1.2, got("audit", "passes"))]
+    out += [verdict("format from memory, beside memset", 0.9, got("format", "memset"))]
+    if ("write", "memory", "isal") in cases[0].told:
+        out += [verdict("write from memory at u = 4096, beside ISA-L", 0.9, got("write", "isal", True, [4096]))]
+        out += [verdict("audit from memory at u = 4096, beside ISA-L", 0.9, got("audit", "isal", sizes=[4096]))]
+    return out
+
+
+def report(cases):
+    c, hot = list(C.values()), ["hot: " + next(iter(C.values()))] + list(C.values())[1:]
+    out = [prose(ABOUT), ""] + verdicts(cases)
+    out += part(WRITE, ["refused call", "write"] + c + ["share of memcpy", "hot: write"] + c, write_row, cases)
+    out += part(AUDIT, ["audit", "check in it"] + c + ["share of read"] + hot, audit_row, cases)
+    out += part(FORMAT, ["format", "check in it", "memset", "share of memset", "hot: memset"], format_row, cases)
+    out += part(READ, ["refused call", "read", "memcpy", "share of read", "hot: read", "memcpy"], read_row, cases)
+    return out + part(LIMITS, ["array, MB", "arrays in turn", "memcpy", "memset", "read"], limit_row, cases)
+
+
+def stacks(say):
+    rows = [[*case, *say("target/bytes", "stack", *case).split()] for case in CASES]
+    return table(["v", "k", "g", "u", "format", "read", "write", "audit"], rows)
