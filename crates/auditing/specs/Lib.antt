@@ -1,3 +1,4 @@
 pub mod Auditing
 pub mod Reasons
 pub mod Theorems
+pub mod Steps
