@@ -1,3 +1,6 @@
 pub mod Steps
 pub mod Sets
 pub mod Answers
+pub mod Reasons
+pub mod Theorems
+pub mod TwoResults
