@@ -107,6 +107,14 @@ typedef struct {
     uint32_t c;
 } himzolven_role_answer;
 
+/* bad: how many sets don't XOR to zero; lowest: the lowest such number, 0 if none. */
+typedef struct {
+    uint32_t refusal;
+    uint32_t place;
+    uint32_t bad;
+    uint32_t lowest;
+} himzolven_audit_answer;
+
 /* Fills the list with the design of a held v. The length for each v, 7: 21, 13: 52, 21: 105, 31: 186, 57: 456, 73: 657,
  * 91: 910. Refusals 1, 3. */
 himzolven_answer himzolven_fill(uint32_t v, uint16_t *design, size_t length);
@@ -133,6 +141,10 @@ himzolven_answer himzolven_read(uint32_t v, uint32_t k, uint32_t g, uint32_t u, 
  * parity, the inner parity of the data unit and the inner parity of the outer parity unit: four stores. bytes_length may be 0.
  * Refusals 2, 3, 4, 5, 6, 7, 8, 10, 11, 12. */
 himzolven_answer himzolven_write(uint32_t v, uint32_t k, uint32_t g, uint32_t u, const uint16_t *design, size_t length, uint8_t *array, size_t array_length, const uint8_t *marks, size_t marks_length, uint32_t user_unit, uint64_t offset, const uint8_t *bytes, size_t bytes_length);
+
+/* Audits every set, outer and inner. It is lent no marks and reads lost disks too. Set t*((g-1)*g + k*g) plus i*g+c is the outer
+ * set of label (i, c) of tuple t, plus (g-1)*g + l*g + j the inner set of diagonal j at position l. Refusals 2, 3, 4, 5, 6, 7. */
+himzolven_audit_answer himzolven_audit(uint32_t v, uint32_t k, uint32_t g, uint32_t u, const uint16_t *design, size_t length, const uint8_t *array, size_t array_length);
 
 #ifdef __cplusplus
 }

@@ -35,7 +35,6 @@ type Find = fn(Fault, u64, &[Design]) -> Option<String>;
 /// The faults, each with the way in which it is looked for.
 fn planted() -> impl Iterator<Item = (Fault, Find)> {
     let mapping = Fault::MAPPING.iter().map(|fault| (*fault, find as Find));
-    #[cfg(feature = "array")]
     let mapping = mapping.chain(Fault::ARRAY.iter().map(|fault| (*fault, crate::sequences::find as Find)));
     mapping
 }

@@ -62,7 +62,6 @@ impl<W: Word> Lent<W> {
     }
 }
 
-#[cfg(feature = "array")]
 impl Lent<u8> {
     /// A list of zeros, none of which is stored here: the memory of a long one is there only once it is used.
     pub fn zeros(length: usize, shift: usize) -> Lent<u8> {

@@ -1,6 +1,5 @@
 //! The proved library's C interface, as `include/himzolven.h` declares it.
 
-#[cfg(feature = "array")]
 pub mod array;
 
 use compare::model::{Geometry, Map, Refusal, Role, Sizes};

@@ -11,7 +11,6 @@ mod library;
 mod pool;
 mod random;
 mod run;
-#[cfg(feature = "array")]
 mod sequences;
 mod tally;
 mod units;
@@ -54,11 +53,8 @@ fn asked(words: &[&str]) -> Option<Result<(), String>> {
         ["compare", rest @ ..] => {
             options(rest, [seed, ("--calls", CALLS)]).map(|[seed, calls]| run::run(seed, calls as usize))
         }
-        #[cfg(feature = "array")]
         ["sequences", rest @ ..] => options(rest, [seed, ("--from", 0), ("--count", sequences::COUNT)])
             .map(|[seed, from, count]| sequences::run(seed, from, count)),
-        #[cfg(not(feature = "array"))]
-        ["sequences", ..] => Some(Err("sequences: this program was built without the feature `array`".into())),
         ["faults", rest @ ..] => options(rest, [seed]).map(|[seed]| faults::run(seed)),
         ["units"] => Some(units::run()),
         ["figure4", path] => Some(figure4::run(path)),

@@ -43,7 +43,6 @@ impl Random {
         all
     }
 
-    #[cfg(feature = "array")]
     pub fn bytes(&mut self, length: usize) -> Vec<u8> {
         let words = (0..length.div_ceil(8)).flat_map(|_| self.next().to_le_bytes());
         words.take(length).collect()

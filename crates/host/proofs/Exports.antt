@@ -30,13 +30,17 @@ use Rattle.reading.proofs.Reasons.{read-exact}
 use Rattle.writing.specs.Writing.{writeRules}
 use Rattle.writing.specs.Reasons.{writeRows}
 use Rattle.writing.proofs.Reasons.{write-exact}
+use Rattle.auditing.specs.Auditing.{auditRules, auditOf}
+use Rattle.auditing.specs.Reasons.{auditRows}
+use Rattle.auditing.proofs.Reasons.{audit-exact}
 use Rattle.host.specs.declared.Answer.{Answer}
 use Rattle.host.specs.declared.SizesAnswer.{SizesAnswer}
 use Rattle.host.specs.declared.MapAnswer.{MapAnswer}
 use Rattle.host.specs.declared.RoleAnswer.{RoleAnswer}
+use Rattle.host.specs.declared.AuditAnswer.{AuditAnswer}
 use Rattle.host.specs.Flat.{geometry}
 use Rattle.host.specs.Told.{Told}
-use Rattle.host.proofs.Told.{front-tells, front-answer, front-sizes, front-map, front-role}
+use Rattle.host.proofs.Told.{front-tells, front-answer, front-sizes, front-map, front-role, front-audit}
 use Rattle.host.proofs.himzolven_fill.Reads as fill
 use Rattle.host.proofs.himzolven_check.Reads as check
 use Rattle.host.proofs.himzolven_sizes.Reads as sizes
@@ -45,6 +49,7 @@ use Rattle.host.proofs.himzolven_role.Reads as role
 use Rattle.host.proofs.himzolven_format.Reads as format
 use Rattle.host.proofs.himzolven_read.Reads as read
 use Rattle.host.proofs.himzolven_write.Reads as write
+use Rattle.host.proofs.himzolven_audit.Reads as audit
 
 -- what each contract allows
 abbrev pub FillAllowed : Lfts 1 → ℕ → RefT (List ℕ) → Answer → RefT (List ℕ) → Type 0
@@ -83,6 +88,10 @@ abbrev pub WriteAllowed :
 WriteAllowed κs v k g u design array marks n offset bytes r last =
     write.Post κs (v, (k, (g, (u, (design, (array, (marks, (n, (offset, (bytes, tt)))))))))) r
     (v, (k, (g, (u, (design, (last, (marks, (n, (offset, (bytes, tt))))))))))
+
+abbrev pub AuditAllowed : Lfts 2 → (v k g u : ℕ) → (design array : RefT (List ℕ)) → AuditAnswer → Type 0
+AuditAllowed κs v k g u design array r =
+    audit.Post κs (v, (k, (g, (u, (design, (array, tt)))))) r (v, (k, (g, (u, (design, (array, tt))))))
 
 -- what C is told
 
@@ -151,6 +160,16 @@ write-told κs v k g u design array marks n offset bytes last r p =
     (lit< tt, (lit< tt, (lit< tt, (lit< tt, (lit< tt, (lit< tt, (lit< tt, (lit< tt, (lit< tt, (lit< tt, tt)))))))))) (write-exact (geometry v k g u) (now design) (length (now array)) (now marks) n offset (length (now bytes)) tt)
     (front-answer (verdict rules) r (p .0))
 
+pub audit-told :
+    (κs : Lfts 2) (v k g u : ℕ) (design array : RefT (List ℕ)) (r : AuditAnswer) → AuditAllowed κs v k g u design array r →
+    Told (auditRows (geometry v k g u) (now design) (length (now array))) (r .refusal) (r .place)
+audit-told κs v k g u design array r p =
+    let found = auditOf (geometry v k g u) (now design) (now array) in
+    let answered = answer (auditRules (geometry v k g u) (now design) (length (now array))) found in
+    front-tells (auditRows (geometry v k g u) (now design) (length (now array))) answered (r .refusal) (r .place)
+    (lit< tt, (lit< tt, (lit< tt, (lit< tt, (lit< tt, (lit< tt, tt)))))) (audit-exact (geometry v k g u) (now design) (length (now array)) found)
+    (front-audit answered r p)
+
 -- two answers are one
 
 pub fill-two-results :
@@ -195,3 +214,8 @@ pub write-two-results :
     WriteAllowed κs v k g u design array marks n offset bytes r x → WriteAllowed κs v k g u design array marks n offset bytes s y →
     (r ≡ s) × (now x ≡ now y)
 write-two-results κs v k g u design array marks n offset bytes x y r s p q = (p .0 ∙ sym (q .0), p .1 ∙ sym (q .1))
+
+pub audit-two-results :
+    (κs : Lfts 2) (v k g u : ℕ) (design array : RefT (List ℕ)) (r s : AuditAnswer) →
+    AuditAllowed κs v k g u design array r → AuditAllowed κs v k g u design array s → r ≡ s
+audit-two-results κs v k g u design array r s p q = p ∙ sym q

@@ -8,13 +8,15 @@ use Rattle.refusal.specs.Refusal.{Outcome, refused, accepted}
 use Rattle.refusal.specs.Due.{Row, Due, NoneDue, Exact}
 use Rattle.sizes.specs.declared.Sizes.{Sizes}
 use Rattle.layout.specs.declared.Four.{Four}
+use Rattle.auditing.specs.declared.Found.{Found}
 use Rattle.cells.specs.declared.Role.{Role}
 use Rattle.cells.specs.declared.Role.the-variants.{User, Outer, Inner}
 use Rattle.host.specs.declared.Answer.{Answer}
 use Rattle.host.specs.declared.SizesAnswer.{SizesAnswer}
 use Rattle.host.specs.declared.MapAnswer.{MapAnswer}
 use Rattle.host.specs.declared.RoleAnswer.{RoleAnswer}
-use Rattle.host.specs.Flat.{flatAnswer, flatSizes, flatMap, flatRole, flatRoleOf}
+use Rattle.host.specs.declared.AuditAnswer.{AuditAnswer}
+use Rattle.host.specs.Flat.{flatAnswer, flatSizes, flatMap, flatRole, flatRoleOf, flatAudit}
 use Rattle.host.specs.Told.{Told, Numbered}
 
 -- the number and the place at the front of a flat answer
@@ -87,3 +89,7 @@ front-role (accepted ρ) r e =
       number = ap (λ (x : RoleAnswer). x .refusal) e ∙ front-of-role ρ .0;
       at = ap (λ (x : RoleAnswer). x .place) e ∙ front-of-role ρ .1;
     }
+
+pub front-audit : (o : Outcome Found) (r : AuditAnswer) → r ≡ flatAudit o → Front o (r .refusal) (r .place)
+front-audit (refused n p) r e = record { number = ap (λ (x : AuditAnswer). x .refusal) e; at = ap (λ (x : AuditAnswer). x .place) e }
+front-audit (accepted a) r e = record { number = ap (λ (x : AuditAnswer). x .refusal) e; at = ap (λ (x : AuditAnswer). x .place) e }

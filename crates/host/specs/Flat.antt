@@ -5,12 +5,14 @@ use Rattle.refusal.specs.Refusal.{Outcome, refused, accepted}
 use Rattle.geometry.specs.declared.Geometry.{Geometry}
 use Rattle.sizes.specs.declared.Sizes.{Sizes}
 use Rattle.layout.specs.declared.Four.{Four}
+use Rattle.auditing.specs.declared.Found.{Found}
 use Rattle.cells.specs.declared.Role.{Role}
 use Rattle.cells.specs.declared.Role.the-variants.{User, Outer, Inner}
 use Rattle.host.specs.declared.Answer.{Answer}
 use Rattle.host.specs.declared.SizesAnswer.{SizesAnswer}
 use Rattle.host.specs.declared.MapAnswer.{MapAnswer}
 use Rattle.host.specs.declared.RoleAnswer.{RoleAnswer}
+use Rattle.host.specs.declared.AuditAnswer.{AuditAnswer}
 
 -- the geometry of four numbers from C
 abbrev pub geometry : (v k g u : ℕ) → Geometry
@@ -84,3 +86,8 @@ flatRoleOf (Inner t l j) = record { refusal = 0; place = 0; kind = 2; a = t .0; 
 abbrev pub flatRole : Outcome Role → RoleAnswer
 flatRole (accepted x) = flatRoleOf x
 flatRole (refused n p) = record { refusal = n; place = p; kind = 0; a = 0; b = 0; c = 0 }
+
+-- "how many sets don't XOR to zero and the lowest such number, 0 if none"
+abbrev pub flatAudit : Outcome Found → AuditAnswer
+flatAudit (accepted x) = record { refusal = 0; place = 0; bad = x .bad; lowest = x .lowest }
+flatAudit (refused n p) = record { refusal = n; place = p; bad = 0; lowest = 0 }

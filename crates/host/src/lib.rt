@@ -13,9 +13,11 @@ ghost use Rattle.array.specs.Array.{formattedArray, formattedMarks};
 ghost use Rattle.array.specs.Rules.{arrayRules};
 ghost use Rattle.reading.specs.Reading.{readOf, readRules};
 ghost use Rattle.writing.specs.Writing.{writeOf, writeRules};
-ghost use Rattle.host.specs.Flat.{geometry, flatAnswer, flatSizes, flatMap, flatRole, flatRoleOf};
+ghost use Rattle.auditing.specs.Auditing.{auditRules, auditOf, auditedOutcome};
+ghost use Rattle.host.specs.Flat.{geometry, flatAnswer, flatSizes, flatMap, flatRole, flatRoleOf, flatAudit};
 use address::Located;
 use address::Mapped;
+use auditing::Audited;
 use cells::Role;
 use geometry::Disk;
 use geometry::Geometry;
@@ -65,6 +67,14 @@ pub struct RoleAnswer {
     pub a: u32,
     pub b: u32,
     pub c: u32,
+}
+
+#[repr(C)]
+pub struct AuditAnswer {
+    pub refusal: u32,
+    pub place: u32,
+    pub bad: u32,
+    pub lowest: u32,
 }
 
 fn answer_of(x: Checked) -> Answer
@@ -350,4 +360,41 @@ pub extern "C" fn himzolven_write(
         offset,
         bytes,
     ))
+}
+
+fn audit_of(x: Audited) -> AuditAnswer
+    ensures { λ r. ⌜ r ≡ flatAudit (auditedOutcome x) ⌝ }
+{
+    match x {
+        Audited::Found(f) => AuditAnswer {
+            refusal: 0,
+            place: 0,
+            bad: f.bad,
+            lowest: f.lowest,
+        },
+        Audited::Refused(why) => AuditAnswer {
+            refusal: why.number,
+            place: why.place,
+            bad: 0,
+            lowest: 0,
+        },
+    }
+}
+
+// How many sets don't XOR to zero, and the lowest of them: refusals 2 to 7.
+#[no_mangle]
+pub extern "C" fn himzolven_audit(
+    v: u32,
+    k: u32,
+    g: u32,
+    u: u32,
+    design: &[u16],
+    array: &[u8],
+) -> AuditAnswer
+    ensures { λ r. ⌜ r
+        ≡ flatAudit
+        (answer (auditRules (geometry v k g u) (now (design .entry)) (length (now (array .entry))))
+        (auditOf (geometry v k g u) (now (design .entry)) (now (array .entry)))) ⌝ }
+{
+    audit_of(auditing::audit(Geometry { v, k, g, u }, design, array))
 }
