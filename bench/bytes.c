@@ -231,6 +231,7 @@ static contestant audit_race[] = {
     {.name = "refused", .run = run_audit, .refuse = 1},
     {.name = "library", .run = run_audit},
     {.name = "passes", .run = run_audit, .idle = 1, .differs = passes_differ},
+    {.name = "copied", .run = run_audit, .idle = 1, .differs = copied_differ},
     {.name = "fused", .run = run_audit, .idle = 1, .differs = fused_differ},
     ISAL_AUDIT
 };
@@ -284,12 +285,12 @@ static void same_calls(void) {
     memset(pool, 0xA5, s.bytes);
     memset(marks, 1, s.disks);
     if (call_format(pool) != 0 || !all_zero(pool, s.bytes) || !all_zero(marks, s.disks)) fail("a format leaves bytes");
-    writer *writers[] = {passes_write, fused_write,
+    writer *writers[] = {passes_write, passes_write, fused_write,
 #ifdef WITH_ISAL
         isal_write,
 #endif
     };
-    tester *testers[] = {passes_differ, fused_differ,
+    tester *testers[] = {passes_differ, copied_differ, fused_differ,
 #ifdef WITH_ISAL
         isal_differ,
 #endif

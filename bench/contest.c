@@ -76,6 +76,13 @@ int passes_differ(const uint8_t *array, const size_t *starts, size_t count, size
     return or_pass(room, u) != 0;
 }
 
+int copied_differ(const uint8_t *array, const size_t *starts, size_t count, size_t u) {
+    static uint8_t room[UNIT_MAX] __attribute__((aligned(64)));
+    memcpy(room, array + starts[0], u);
+    for (size_t t = 1; t < count; t++) xor_pass(room, array + starts[t], u);
+    return or_pass(room, u) != 0;
+}
+
 PASS static void four_pass(uint8_t *restrict data, uint8_t *restrict outer, uint8_t *restrict inner, uint8_t *restrict both,
                            const uint8_t *restrict new, size_t n) {
     for (size_t i = 0; i < n; i++) {

@@ -36,6 +36,8 @@ found walk(const shape *s, const uint8_t *array, tester *differs);
 /* one source a pass, through a buffer: difference and four XORs; clear, an XOR for each source, OR */
 writer passes_write;
 tester passes_differ;
+/* the same, with a copy of the first source in place of a clear and an XOR */
+tester copied_differ;
 /* all units in one loop */
 writer fused_write;
 tester fused_differ;

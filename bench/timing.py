@@ -7,6 +7,7 @@ CASES = [(v, k, g, u) for v, k, g in ((7, 3, 3), (13, 4, 11), (21, 5, 11), (91, 
 ROUNDS = 7
 WARNINGS = ("-std=c11", "-Wall", "-Wextra", "-Werror", "-Iinclude")
 C = {"passes": "same passes", "fused": "fused C", "isal": "ISA-L"}
+C_AUDIT = {"passes": "same passes", "copied": "first copied", "fused": "fused C", "isal": "ISA-L"}
 
 ABOUT = f"""
 Ratios are C time over library time from one run: above 1 the library is the faster. "Same passes": one source a pass through a
@@ -22,7 +23,10 @@ WRITE = """
 Write of whole units at scattered user units, ns: an accepted write less the same call refused by the mark of its last disk. The C
 contestants run after that refused call, and it is taken off them too.
 """
-AUDIT = "Audit of a formatted array, us, the design check included. C is given the places and checks nothing."
+AUDIT = """
+Audit of a formatted array, us, the design check included. C is given the places and checks nothing. Same passes: the buffer is
+cleared, then every unit of a set is XORed into it; "first copied": the first unit is copied in instead, a pass fewer.
+"""
 FORMAT = "Format, us, the check included, beside memset of array and marks, which checks nothing."
 READ = "Read of whole units, ns, less the same call refused by the mark of the data disk, beside memcpy of the unit."
 LIMITS = "Memory limits, GB/s: what memcpy copies, memset sets and a loop reads of one array from memory."
@@ -72,9 +76,9 @@ class Case:
         other, own = self.ns(call, where, name, less), self.ns(call, where, "library", less)
         return other / own if other and own else None
 
-    def ratios(self, call, where, less=False):
+    def ratios(self, call, where, names, less=False):
         known = {n for c, _, n in self.told if c == call}
-        return [shown(self.ratio(call, where, n, less)) if n in known else "not installed" for n in C]
+        return [shown(self.ratio(call, where, n, less)) if n in known else "not installed" for n in names]
 
     def rate(self, name):
         """Bytes a ns of a memory limit. memcpy copies one half of an array onto the other."""
@@ -87,13 +91,13 @@ class Case:
 
 def write_row(c):
     row = [shown(c.ns("write", "memory", n, n == "library"), "{:.0f}") for n in ("refused", "library")]
-    row += c.ratios("write", "memory", True) + [c.share("write", 4 * c.u, "memcpy", True)]
-    return row + [shown(c.ns("write", "hot", "library", True), "{:.0f}")] + c.ratios("write", "hot", True)
+    row += c.ratios("write", "memory", C, True) + [c.share("write", 4 * c.u, "memcpy", True)]
+    return row + [shown(c.ns("write", "hot", "library", True), "{:.0f}")] + c.ratios("write", "hot", C, True)
 
 
 def audit_row(c):
     row = [f"{c.ns('audit', 'memory', n) / 1000:.1f}" for n in ("library", "refused")]
-    return row + c.ratios("audit", "memory") + [c.share("audit", c.bytes, "read")] + c.ratios("audit", "hot")
+    return row + c.ratios("audit", "memory", C_AUDIT) + [c.share("audit", c.bytes, "read")] + c.ratios("audit", "hot", C_AUDIT)
 
 
 def format_row(c):
@@ -137,10 +141,10 @@ def verdicts(cases):
 
 
 def report(cases):
-    c, hot = list(C.values()), ["hot: " + next(iter(C.values()))] + list(C.values())[1:]
+    c, d = list(C.values()), list(C_AUDIT.values())
     out = [prose(ABOUT), ""] + verdicts(cases)
     out += part(WRITE, ["refused call", "write"] + c + ["share of memcpy", "hot: write"] + c, write_row, cases)
-    out += part(AUDIT, ["audit", "check in it"] + c + ["share of read"] + hot, audit_row, cases)
+    out += part(AUDIT, ["audit", "check in it"] + d + ["share of read", "hot: " + d[0]] + d[1:], audit_row, cases)
     out += part(FORMAT, ["format", "check in it", "memset", "share of memset", "hot: memset"], format_row, cases)
     out += part(READ, ["refused call", "read", "memcpy", "share of read", "hot: read", "memcpy"], read_row, cases)
     return out + part(LIMITS, ["array, MB", "arrays in turn", "memcpy", "memset", "read"], limit_row, cases)
