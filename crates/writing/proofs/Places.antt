@@ -19,7 +19,7 @@ use Rattle.layout.proofs.SameDisk.{inner-of-in}
 use Rattle.layout.proofs.Theorems.{the-four-disks-differ}
 use Rattle.leaves.specs.Bytes.{Apart}
 use Rattle.leaves.specs.Bytes as bytes
-use Rattle.runs.proofs.Writes.{apart-part, four-part}
+use Rattle.runs.proofs.Writes.{four-part}
 use Rattle.array.specs.Array.{startOf}
 use Rattle.array.proofs.Starts.{start-in, starts-apart}
 use Rattle.writing.specs.Ranges.{FourIn, FourMarked}
