@@ -175,11 +175,3 @@ module _ {z : ℕ → Bool} {f : Found} {s n : ℕ} {x : Found} {i : ℕ} (h : C
 
   pub counted-all : n ≤ i → x ≡ foundFrom z f s n
   counted-all l = let e : i ≡ n = omega (arith, h .most) in h .is ∙ ap (foundFrom z f s) e
-
--- ---- one set
-module _ (f : Found) (s : ℕ) where
-  pub with-first : (z : Bool) → z ≡ false → f .bad ≡ 0 → found 1 s ≡ withSet f s z
-  with-first z e h = rw (e, h)
-
-  pub with-later : (z : Bool) → z ≡ false → (f .bad ≡ 0 → ⊥) → found (f .bad + 1) (f .lowest) ≡ withSet f s z
-  with-later z e h = rw (e, ne-eqb (f .bad) 0 h)

@@ -36,16 +36,16 @@ loop-holds : tie.Need-loop-holds Inv-loop μ-loop
 loop-holds c = (counted-none _ _ _ _, sym (front-zeros 13 _ (search needs)))
 
 diagonal-starts-requires : tie.Need-diagonal-starts-requires Inv-loop μ-loop
-diagonal-starts-requires c κs = let p = c .before .before .before .before .before .before .before .before .before .pre in ((p .0 .0, c .before .before .before .before .before .before .before .disk-bytes .ensures, p .0 .2), (c .before .if1 .taken, c .before .before .before .loop .inv .1))
+diagonal-starts-requires c κs = let p = c .before .before .before .before .before .before .before .before .before .pre in ((p .0 .0, c .before .before .before .before .before .before .before .disk-bytes .ensures, p .0 .2), (omega (arith, c .before .if1 .taken, p .0 .0 .k-g), c .before .before .before .loop .inv .1))
 
 add-with-set : tie.Need-add-with-set Inv-loop μ-loop
-add-with-set c = let p = c .before .before .before .before .before .before .before .before .before .before .before .before .pre in omega (arith, p .1 .1, p .0 .0 .g-high, c .before .before .before .before .if1 .taken)
+add-with-set c = let p = c .before .before .before .before .before .before .before .before .before .before .before .before .pre in omega (arith, p .1 .1, p .0 .0 .g-high, p .0 .0 .k-g, c .before .before .before .before .if1 .taken)
 
 zero-sum-requires : tie.Need-zero-sum-requires Inv-loop μ-loop
 zero-sum-requires c κs = let p = c .before .before .before .before .before .before .before .before .before .before .before .before .before .pre in diagonal-inside _ (p .0 .0) _ _ _ (c .before .before .before .diagonal-starts .ensures) _ (p .0 .2) (p .0 .1)
 
 with-set-requires : tie.Need-with-set-requires Inv-loop μ-loop
-with-set-requires c κs = let p = c .before .before .before .before .before .before .before .before .before .before .before .before .before .before .pre in omega (arith, counted-bad (c .before .before .before .before .before .before .before .before .loop .inv .0), p .1 .0, p .1 .1, p .0 .0 .g-high, c .before .before .before .before .before .before .if1 .taken)
+with-set-requires c κs = let p = c .before .before .before .before .before .before .before .before .before .before .before .before .before .before .pre in omega (arith, counted-bad (c .before .before .before .before .before .before .before .before .loop .inv .0), p .1 .0, p .1 .1, p .0 .0 .g-high, p .0 .0 .k-g, c .before .before .before .before .before .before .if1 .taken)
 
 add-j : tie.Need-add-j Inv-loop μ-loop
 add-j c = search needs
@@ -54,7 +54,7 @@ loop-less : tie.Need-loop-less Inv-loop μ-loop
 loop-less c = search needs
 
 loop-again : tie.Need-loop-again Inv-loop μ-loop
-loop-again c = let s = c .before .before .before .before .before .before .before .before .before .before .before .before .before .before .before .pre .0 .0 in let e = c .before .before .before .before .before .diagonal-starts .ensures in (counted-more (c .before .before .before .before .before .before .before .before .before .loop .inv .0) (c .before .before .before .before .before .before .before .if1 .taken) _ _ (c .with-set .ensures) (diagonal-zero _ s _ _ _ e _ _ (c .before .zero-sum .ensures)), diagonal-long _ s _ _ _ e)
+loop-again c = let s = c .before .before .before .before .before .before .before .before .before .before .before .before .before .before .before .pre .0 .0 in let e = c .before .before .before .before .before .diagonal-starts .ensures in (counted-more (c .before .before .before .before .before .before .before .before .before .loop .inv .0) (omega (arith, c .before .before .before .before .before .before .before .if1 .taken, s .k-g)) _ _ (c .with-set .ensures) (diagonal-zero _ s _ _ _ e _ _ (c .before .zero-sum .ensures)), diagonal-long _ s _ _ _ e)
 
 returns : tie.Need-returns Inv-loop μ-loop
 returns c = counted-all (c .before .before .before .loop .inv .0) (search needs)

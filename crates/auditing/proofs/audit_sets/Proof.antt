@@ -19,7 +19,7 @@ add-inner : tie.Need-add-inner
 add-inner c = let p = c .before .before .before .before .before .pre in omega (arith, labels-bound _ (p .0 .0), p .1 .1)
 
 audit-diagonals-requires : tie.Need-audit-diagonals-requires
-audit-diagonals-requires c κs = let p = c .before .before .before .before .before .pre in (p .0, (found-bad _ _ _ _ _ (c .before .before .audit-labels .ensures) (p .1 .0), omega (arith, labels-bound _ (p .0 .0), p .1 .1)))
+audit-diagonals-requires c κs = let p = c .before .before .before .before .before .pre in (p .0, (omega (arith, found-bad _ _ _ _ _ (c .before .before .audit-labels .ensures) (p .1 .0), p .1 .0), omega (arith, labels-bound _ (p .0 .0), p .1 .1)))
 
 returns : tie.Need-returns
 returns c = tuple-found _ _ _ _ _ _ _ (c .before .before .before .audit-labels .ensures) (c .audit-diagonals .ensures)

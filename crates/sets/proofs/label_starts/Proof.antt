@@ -32,7 +32,7 @@ slice-write-starts : tie.Need-slice-write-starts Inv-loop μ-loop
 slice-write-starts c = search needs
 
 turned-requires : tie.Need-turned-requires Inv-loop μ-loop
-turned-requires c κs = let p = c .before .before .before .before .before .before .pre in (labels-column (p .0 .0) (p .1 .2) (c .before .before .before .loop .inv), p .1 .0, p .0 .0 .g-high)
+turned-requires c κs = let p = c .before .before .before .before .before .before .pre in (labels-column (p .0 .0) (p .1 .2) (c .before .before .before .loop .inv), omega (arith, p .1 .0, p .0 .0 .g-low), p .0 .0 .g-high)
 
 add-l : tie.Need-add-l Inv-loop μ-loop
 add-l c = search needs
