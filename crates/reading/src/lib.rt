@@ -31,10 +31,11 @@ fn check_mark(geometry: Geometry, marks: &[u8], place: Place) -> Checked
     ensures { λ r. ⌜ checkedOutcome r ≡ verdict (markRule geometry (now (marks .entry)) place ∷ []) ⌝ }
 {
     if array::is_lost(geometry, marks, place) {
-        return Checked::Refused(Refusal {
+        let why = Refusal {
             number: 12,
             place: place.disk.0,
-        });
+        };
+        return Checked::Refused(why);
     }
     Checked::Fine
 }
