@@ -1,5 +1,6 @@
 pub mod Starts
 pub mod Fits
+pub mod High
 pub mod Range
 pub mod Reasons
 pub mod Kept

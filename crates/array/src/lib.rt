@@ -8,7 +8,7 @@ ghost use Prim.Native.Nat.{_+_, _≤_, _<_};
 ghost use mathlib.Core.Path.{_≡_};
 ghost use lib.Dec.{ltb};
 ghost use lib.ListN.{length};
-ghost use Rattle.counting.specs.Counting.{lowest};
+ghost use Rattle.counting.specs.Counting.{lowest, anyBelow};
 ghost use Rattle.refusal.specs.Refusal.{verdict, kept, checkedOutcome};
 ghost use Rattle.geometry.specs.Geometry.{Sound, bytesOf};
 ghost use Rattle.layout.specs.Marks.{lost};
@@ -38,10 +38,26 @@ pub fn array_fits(geometry: Geometry, bytes: usize) -> bool
     bytes as u64 == whole
 }
 
-// The lowest disk with a mark above 1, and the number of marks where there is none.
+// Whether some mark is above 1. No early exit, so that the loop works on many marks at once.
+fn any_high(marks: &[u8]) -> bool
+    ensures { λ r. ⌜ r ≡ anyBelow (markHigh (now (marks .entry))) (length (now (marks .entry))) ⌝ }
+{
+    let mut found = false;
+    let mut x: usize = 0;
+    while x < marks.len() {
+        found = found | (1 < marks[x]);
+        x += 1;
+    }
+    found
+}
+
+// The lowest disk with a mark above 1, and the number of marks where there is none. It is searched for only if there is one.
 fn first_high(marks: &[u8]) -> usize
     ensures { λ r. ⌜ r ≡ lowest (markHigh (now (marks .entry))) (length (now (marks .entry))) ⌝ }
 {
+    if !any_high(marks) {
+        return marks.len();
+    }
     let mut x: usize = 0;
     while x < marks.len() {
         if 1 < marks[x] {
