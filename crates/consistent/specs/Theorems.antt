@@ -7,11 +7,12 @@ use lib.ListN.{length}
 use Rattle.geometry.specs.declared.Geometry.{Geometry}
 use Rattle.geometry.specs.Geometry.{Sound, userUnitsOf, bytesOf}
 use Rattle.design.specs.Design.{Laid}
+use Rattle.cells.specs.Sets.{outerNumber, innerNumber}
 use Rattle.cells.specs.Roles.{userCell, userOuter}
 use Rattle.cells.specs.Ranges.{OuterIn, InnerIn}
 use Rattle.leaves.specs.Bytes.{run, sumAt}
 use Rattle.array.specs.Array.{cellStart, formattedArray}
-use Rattle.consistent.specs.Consistent.{outerStarts, innerStarts, Consistent}
+use Rattle.consistent.specs.Consistent.{outerStarts, innerStarts, setStarts, Consistent}
 
 -- "The unit at position k-1 is its parity, the XOR of the others", for every label; "Row g-1 holds its parity .. the XOR of
 -- the others", for every diagonal: the bytes at one offset of a set's units, its parity among them, XOR to zero
@@ -19,7 +20,16 @@ pub record BothParities (G : Geometry) (d a : List ℕ) : Type 0 where
   pub outer : (t i c : ℕ) → OuterIn G t i c → (j : ℕ) → j < G .u → sumAt a (outerStarts G d t i c) j ≡ 0
   pub inner : (t l j : ℕ) → InnerIn G t l j → (i : ℕ) → i < G .u → sumAt a (innerStarts G d t l j) i ≡ 0
 
--- the sets by their numbers are the labels' and the diagonals' sets
+-- "numbers every set, t·((g-1)g + kg) plus i·g+c for outer, plus (g-1)g + l·g + j for inner": each label's and each diagonal's
+-- set is the set of its number
+pub record SetsNumbered (G : Geometry) (d : List ℕ) : Type 0 where
+  pub outer : (t i c : ℕ) → OuterIn G t i c → setStarts G d (outerNumber G t i c) ≡ outerStarts G d t i c
+  pub inner : (t l j : ℕ) → InnerIn G t l j → setStarts G d (innerNumber G t l j) ≡ innerStarts G d t l j
+
+abbrev pub The-sets-have-their-numbers : Type 0
+The-sets-have-their-numbers = (G : Geometry) → Sound G → (d : List ℕ) → SetsNumbered G d
+
+-- so every set is zero exactly if both parities hold
 abbrev pub Consistent-means-both-parities : Type 0
 Consistent-means-both-parities =
     (G : Geometry) → Sound G → (d a : List ℕ) → Consistent G d a ↔ BothParities G d a

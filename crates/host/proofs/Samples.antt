@@ -4,7 +4,7 @@ use Rattle.refusal.specs.Refusal.{accepted, refused}
 use Rattle.layout.specs.Places.{place}
 use Rattle.cells.specs.Roles.{user, outer, inner}
 use Rattle.host.specs.declared.MapAnswer.{MapAnswer}
-use Rattle.host.specs.Flat.{flatSizes, flatMap, flatRole}
+use Rattle.host.specs.Flat.{geometry, flatSizes, flatMap, flatRole, flatAudit}
 
 -- 01's example 2, user 4: "1/1, 18/1, 2/2, 19/2"
 sample-map :
@@ -50,3 +50,12 @@ sample-sizes :
       bytes = 189;
     }
 sample-sizes = refl
+
+-- 13 sets don't XOR to zero, the lowest is set 95
+sample-audit :
+    flatAudit (accepted (record { bad = 13; lowest = 95 })) ≡ record { refusal = 0; place = 0; bad = 13; lowest = 95 }
+sample-audit = refl
+
+-- v, k, g and u, in C's order
+sample-geometry : geometry 91 10 11 512 ≡ record { v = 91; k = 10; g = 11; u = 512 }
+sample-geometry = refl

@@ -1,10 +1,9 @@
-// Runs of bytes inside one lent array: a write that keeps sums zero, and the test whether sums are zero. Both go block by block,
-// with 64 bytes in a local, so that a block stays in registers and is read whole before anything is stored.
+// Runs of bytes inside one lent array: bytes XORed into one, and the test whether several XOR to zero, which goes block by block,
+// with 64 bytes in a local.
 ghost use mathlib.Core.Path.{_≡_};
-ghost use mathlib.Core.List.{[], _∷_};
 ghost use Prim.Native.Nat.{_+_, _≤_, _<_};
 ghost use lib.ListN.{length};
-ghost use Rattle.leaves.specs.Bytes.{xors, addAt, addAll, written, sums, zeroSum, zeroSumFrom, Inside, FourInside, Four};
+ghost use Rattle.leaves.specs.Bytes.{xors, addAt, sums, zeroSum, zeroSumFrom, Inside};
 
 // XORs e into the array from p on. Every store of a write goes through here, on a part that starts at its offset.
 pub fn add_run(array: &mut [u8], p: usize, e: &[u8])
@@ -13,55 +12,6 @@ pub fn add_run(array: &mut [u8], p: usize, e: &[u8])
 {
     let end = p + e.len();
     leaves::xor_into(&mut array[p..end], e);
-}
-
-// The same bytes at four places.
-fn add_at_four(array: &mut [u8], p: usize, q: usize, r: usize, s: usize, e: &[u8])
-    requires { ⌜ FourInside (length (now array)) p q r s (length (now e)) ⌝ }
-    ensures { λ _. ⌜ now (array .exit) ≡ addAll (now (array .entry)) (p ∷ q ∷ r ∷ s ∷ []) (now (e .entry)) ⌝ }
-{
-    add_run(array, p, e);
-    add_run(array, q, e);
-    add_run(array, r, e);
-    add_run(array, s, e);
-}
-
-// One block of a write. Its difference stays in registers, and is whole before the first store.
-fn add_block(array: &mut [u8], p: usize, q: usize, r: usize, s: usize, new: &[u8])
-    requires { ⌜ (length (now new) ≡ 64) × Four (length (now array)) p q r s (length (now new)) ⌝ }
-    ensures { λ _. ⌜ now (array .exit) ≡ written (now (array .entry)) p (q ∷ r ∷ s ∷ []) (now (new .entry)) ⌝ }
-{
-    let end = p + 64;
-    let mut e = [0u8; 64];
-    leaves::difference(&mut e, &array[p..end], new);
-    add_at_four(array, p, q, r, s, &e);
-}
-
-// What is left of a write after its blocks.
-fn add_rest(array: &mut [u8], p: usize, q: usize, r: usize, s: usize, new: &[u8])
-    requires { ⌜ (length (now new) < 64) × Four (length (now array)) p q r s (length (now new)) ⌝ }
-    ensures { λ _. ⌜ now (array .exit) ≡ written (now (array .entry)) p (q ∷ r ∷ s ∷ []) (now (new .entry)) ⌝ }
-{
-    let n = new.len();
-    let end = p + n;
-    let mut room = [0u8; 64];
-    let e = &mut room[..n];
-    leaves::difference(e, &array[p..end], new);
-    add_at_four(array, p, q, r, s, e);
-}
-
-// Writes new at p: block by block, its difference to what was there goes to p and alike to q, r and s.
-pub fn add_four(array: &mut [u8], p: usize, q: usize, r: usize, s: usize, new: &[u8])
-    requires { ⌜ Four (length (now array)) p q r s (length (now new)) ⌝ }
-    ensures { λ _. ⌜ now (array .exit) ≡ written (now (array .entry)) p (q ∷ r ∷ s ∷ []) (now (new .entry)) ⌝ }
-{
-    let mut i: usize = 0;
-    while i + 64 <= new.len() {
-        let end = i + 64;
-        add_block(array, p + i, q + i, r + i, s + i, &new[i..end]);
-        i = end;
-    }
-    add_rest(array, p + i, q + i, r + i, s + i, &new[i..]);
 }
 
 // XORs into room, for every source, the bytes that it has from offset i on: one source a turn, so any number of them.

@@ -7,5 +7,6 @@ pub mod Bytes
 pub mod Starts
 pub mod Theorems
 pub mod Accepted
+pub mod Fronts
 pub mod Members
 pub mod Sets

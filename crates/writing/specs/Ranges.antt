@@ -22,10 +22,14 @@ pub record FourMarked (n : ℕ) (f : Four) : Type 0 where
   pub inner : f .inner .disk .0 < n
   pub both : f .both .disk .0 < n
 
+-- the runs beside the data's: "its outer parity, the inner parity of the data unit and the inner parity of the outer parity unit"
+abbrev pub parityRuns : (q r s : ℕ) → List ℕ
+parityRuns q r s = q ∷ r ∷ s ∷ []
+
 -- where the range from offset o begins in the data unit
 abbrev pub dataStart : Geometry → Four → ℕ → ℕ
 dataStart G f o = startOf G (f .user) + o
 
 -- and in the three parity units
 abbrev pub parityStarts : Geometry → Four → ℕ → List ℕ
-parityStarts G f o = (startOf G (f .outer) + o) ∷ (startOf G (f .inner) + o) ∷ (startOf G (f .both) + o) ∷ []
+parityStarts G f o = parityRuns (startOf G (f .outer) + o) (startOf G (f .inner) + o) (startOf G (f .both) + o)

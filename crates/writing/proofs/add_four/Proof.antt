@@ -1,10 +1,10 @@
--- `runs::add_four` meets its contract: after each block, what is done is the difference up to there. Assumes nothing.
+-- `writing::add_four` meets its contract: after each block, what is done is the difference up to there. Assumes nothing.
 use Prim.Native.Nat.{_-_}
 use lib.ListN.{length}
 use Rattle.runs.proofs.Writes.{Wrote, wrote-none, wrote-fits, wrote-more, wrote-rest-fits, wrote-rest}
 use borrow.Author.Needs.{needs}
-use Rattle.runs.proofs.add_four.Statement.{statement}
-use Rattle.runs.proofs.add_four.Tie as tie
+use Rattle.writing.proofs.add_four.Statement.{statement}
+use Rattle.writing.proofs.add_four.Tie as tie
 
 abbrev Inv-loop : tie.InvT-loop
 Inv-loop array₀ p q r s new i₀ array i = Wrote array₀ p q r s new array i

@@ -1,8 +1,8 @@
--- `runs::add_block` meets its contract. Assumes nothing.
+-- `writing::add_block` meets its contract. Assumes nothing.
 use Rattle.runs.proofs.Writes.{block-written}
 use borrow.Author.Needs.{needs}
-use Rattle.runs.proofs.add_block.Statement.{statement}
-use Rattle.runs.proofs.add_block.Tie as tie
+use Rattle.writing.proofs.add_block.Statement.{statement}
+use Rattle.writing.proofs.add_block.Tie as tie
 
 add-end : tie.Need-add-end
 add-end c = search needs

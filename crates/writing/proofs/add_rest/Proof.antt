@@ -1,12 +1,12 @@
--- `runs::add_rest` meets its contract. Assumes nothing.
+-- `writing::add_rest` meets its contract. Assumes nothing.
 use mathlib.Core.Path.{_≡_, _∙_, refl, sym}
 use native.Mathlib.Omega.{arith}
 use lib.ListN.{length}
 use Rattle.leaves.proofs.Runs.{front-zeros, part-length}
 use Rattle.runs.proofs.Writes.{block-written}
 use borrow.Author.Needs.{needs}
-use Rattle.runs.proofs.add_rest.Statement.{statement}
-use Rattle.runs.proofs.add_rest.Tie as tie
+use Rattle.writing.proofs.add_rest.Statement.{statement}
+use Rattle.writing.proofs.add_rest.Tie as tie
 
 add-end : tie.Need-add-end
 add-end c = search needs
