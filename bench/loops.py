@@ -11,7 +11,7 @@ ABOUT = """
 By disassembly of the linked archive, with the instructions that one call ran on F, g = 3 (callgrind). Listed are the loops that
 ran, have no packed access and take 8 bytes or fewer at a time: those whose turns depend on u, and those that take single bytes. A
 tail turns as often at u = 4095 as at 63 and at 4096 as at 64: whole blocks add no turn. What is the same at each u belongs to the
-check of design and marks, which stops at the first fault.
+check of the design, which stops at the first fault, and to the marks.
 """
 PACKED = "No loop grows with u: every byte loop is packed but for its tail."
 WIDTH = {"BYTE": 1, "WORD": 2, "DWORD": 4, "QWORD": 8, "XMMWORD": 16, "YMMWORD": 32, "ZMMWORD": 64}

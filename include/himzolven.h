@@ -14,7 +14,7 @@
  * C would cut it silently (-Wconversion finds that).
  *
  * Lists. Each list is a pointer and its length in elements. NULL with length 0 is the empty list: nothing of it is read or
- * written. Elsewhere the list must be readable (written where the parameter is not const), `design` aligned for uint16_t, and
+ * written. Elsewhere the list must be readable, and writable where the parameter is not const, `design` aligned for uint16_t, and
  * the length its true length: no function can check that. No list is kept after the call returns.
  *
  * Array and marks. `array` holds all disks, disk 0 whole, then disk 1: `bytes` of himzolven_sizes, at most 1,073,741,824.
@@ -23,8 +23,14 @@
  * Aliasing. A list that is not const is lent to the call alone: it shares no byte with another list of the same call, and no
  * other thread may read or write it during the call. Lists that are const may overlap, and any number of calls may share them.
  *
- * Devices. A call returns when its stores are made in memory, in no promised order. If `array` is memory that a device reads
- * (shared, mapped or persistent), ordering and flushing towards the device are the caller's duty.
+ * Devices. When a call returns, its stores are made as the calling thread sees them; their order is not promised. If `array` is
+ * memory that a device reads (shared, mapped or persistent), ordering and flushing towards the device are the caller's duty. A
+ * write that is cut off before it returns (a crash, a signal that never comes back) may leave sets of its four units bad:
+ * himzolven_audit finds them, no function repairs them.
+ *
+ * Cost. Each call checks the design anew: docs/SPEED.md has the instructions for each v and k.
+ *
+ * Linking. The archive calls memset, and memcpy or memmove where the compiler chooses so; nothing else from outside.
  *
  * Threads and stack. No function has state of its own: each may be called from any thread, and several at a time, as long as
  * the lists obey the rules above. No function allocates, blocks, prints or fails to return. Each needs less than 10 KB of stack
@@ -117,34 +123,47 @@ typedef struct {
 
 /* Fills the list with the design of a held v. The length for each v, 7: 21, 13: 52, 21: 105, 31: 186, 57: 456, 73: 657,
  * 91: 910. Refusals 1, 3. */
-himzolven_answer himzolven_fill(uint32_t v, uint16_t *design, size_t length);
+himzolven_answer himzolven_fill(uint32_t v, uint16_t *design, size_t design_length);
 
 /* Checks that the list is a design of v groups in rows of k. Refusals 2, 3, 4, 5. */
-himzolven_answer himzolven_check(uint32_t v, uint32_t k, const uint16_t *design, size_t length);
+himzolven_answer himzolven_check(uint32_t v, uint32_t k, const uint16_t *design, size_t design_length);
 
 /* The sizes that follow from a design and a geometry. Refusals 2, 3, 4, 5, 6. */
-himzolven_sizes_answer himzolven_sizes(uint32_t v, uint32_t k, uint32_t g, uint32_t u, const uint16_t *design, size_t length);
+himzolven_sizes_answer himzolven_sizes(
+    uint32_t v, uint32_t k, uint32_t g, uint32_t u, const uint16_t *design, size_t design_length);
 
 /* The four places of a user unit. Refusals 2, 3, 4, 5, 6, 10. */
-himzolven_map_answer himzolven_map(uint32_t v, uint32_t k, uint32_t g, uint32_t u, const uint16_t *design, size_t length, uint32_t user_unit);
+himzolven_map_answer himzolven_map(
+    uint32_t v, uint32_t k, uint32_t g, uint32_t u, const uint16_t *design, size_t design_length, uint32_t user_unit);
 
 /* The role of a disk's unit. Refusals 2, 3, 4, 5, 6, 9. */
-himzolven_role_answer himzolven_role(uint32_t v, uint32_t k, uint32_t g, uint32_t u, const uint16_t *design, size_t length, uint32_t disk, uint32_t unit);
+himzolven_role_answer himzolven_role(
+    uint32_t v, uint32_t k, uint32_t g, uint32_t u, const uint16_t *design, size_t design_length, uint32_t disk, uint32_t unit);
 
 /* Makes all array bytes and all marks 0. Refusals 2, 3, 4, 5, 6, 7, 8. */
-himzolven_answer himzolven_format(uint32_t v, uint32_t k, uint32_t g, uint32_t u, const uint16_t *design, size_t length, uint8_t *array, size_t array_length, uint8_t *marks, size_t marks_length);
+himzolven_answer himzolven_format(
+    uint32_t v, uint32_t k, uint32_t g, uint32_t u, const uint16_t *design, size_t design_length, uint8_t *array,
+    size_t array_length, uint8_t *marks, size_t marks_length);
 
 /* Reads bytes_length bytes from `offset` of a user unit. bytes_length may be 0. Refusals 2, 3, 4, 5, 6, 7, 8, 10, 11, 12. */
-himzolven_answer himzolven_read(uint32_t v, uint32_t k, uint32_t g, uint32_t u, const uint16_t *design, size_t length, const uint8_t *array, size_t array_length, const uint8_t *marks, size_t marks_length, uint32_t user_unit, uint64_t offset, uint8_t *bytes, size_t bytes_length);
+himzolven_answer himzolven_read(
+    uint32_t v, uint32_t k, uint32_t g, uint32_t u, const uint16_t *design, size_t design_length, const uint8_t *array,
+    size_t array_length, const uint8_t *marks, size_t marks_length, uint32_t user_unit, uint64_t offset, uint8_t *bytes,
+    size_t bytes_length);
 
 /* Writes bytes_length bytes from `offset` of a user unit. The difference to what was there is XORed into the data unit, its outer
- * parity, the inner parity of the data unit and the inner parity of the outer parity unit: four stores. bytes_length may be 0.
+ * parity, the inner parity of the data unit and the inner parity of the outer parity unit. bytes_length may be 0.
  * Refusals 2, 3, 4, 5, 6, 7, 8, 10, 11, 12. */
-himzolven_answer himzolven_write(uint32_t v, uint32_t k, uint32_t g, uint32_t u, const uint16_t *design, size_t length, uint8_t *array, size_t array_length, const uint8_t *marks, size_t marks_length, uint32_t user_unit, uint64_t offset, const uint8_t *bytes, size_t bytes_length);
+himzolven_answer himzolven_write(
+    uint32_t v, uint32_t k, uint32_t g, uint32_t u, const uint16_t *design, size_t design_length, uint8_t *array,
+    size_t array_length, const uint8_t *marks, size_t marks_length, uint32_t user_unit, uint64_t offset, const uint8_t *bytes,
+    size_t bytes_length);
 
 /* Audits every set, outer and inner. It is lent no marks and reads lost disks too. Set t*((g-1)*g + k*g) plus i*g+c is the outer
  * set of label (i, c) of tuple t, plus (g-1)*g + l*g + j the inner set of diagonal j at position l. Refusals 2, 3, 4, 5, 6, 7. */
-himzolven_audit_answer himzolven_audit(uint32_t v, uint32_t k, uint32_t g, uint32_t u, const uint16_t *design, size_t length, const uint8_t *array, size_t array_length);
+himzolven_audit_answer himzolven_audit(
+    uint32_t v, uint32_t k, uint32_t g, uint32_t u, const uint16_t *design, size_t design_length, const uint8_t *array,
+    size_t array_length);
 
 #ifdef __cplusplus
 }

@@ -81,7 +81,7 @@ module _ (κs : Lfts 4) (G : Geometry) (design array marks : RefT (List ℕ)) (n
       rw (write-accepted κs G design array marks n offset bytes x p)
       (a-write-puts-one-difference-into-four-units G (now design) (now array) (n .0) offset (now bytes) range)
 
-  -- "other user units keep theirs"
+  -- other user units keep theirs
   pub accepted-others :
       (w : ℕ) → w < userUnitsOf G → (w ≡ n .0 → ⊥) →
       readOf G (now design) (now x) w 0 (G .u) ≡ readOf G (now design) (now array) w 0 (G .u)
@@ -89,13 +89,13 @@ module _ (κs : Lfts 4) (G : Geometry) (design array marks : RefT (List ℕ)) (n
       rw (write-accepted κs G design array marks n offset bytes x p)
       (other-user-units-keep-their-bytes G (now design) (now array) (n .0) offset (now bytes) range w l e)
 
-  -- "keeps consistent what was"
+  -- a consistent array stays consistent
   pub accepted-consistent : Consistent G (now design) (now array) → Consistent G (now design) (now x)
   accepted-consistent c =
       rw (write-accepted κs G design array marks n offset bytes x p)
       (a-write-keeps-a-consistent-array-consistent G (now design) (now array) (n .0) offset (now bytes) range c)
 
-  -- "After a write a read of the range gives the written bytes": it is accepted
+  -- after a write a read of the range is accepted and gives the written bytes
   module _ (ρs : Lfts 4) (out : RefT (List ℕ)) (long : length (now out) ≡ length (now bytes)) where
     reads : verdict (readRules G (now design) (length (now x)) (now marks) (n .0) offset (length (now out))) ≡ accepted tt
     reads =

@@ -55,13 +55,13 @@ A-write-puts-one-difference-into-four-units =
     (G : Geometry) (d a : List ℕ) (m o : ℕ) (new : List ℕ) → Range G d a m o (length new) →
     SameDifference G d a (writeOf G d a m o new) m o new
 
--- "After a write a read of the range gives the written bytes"
+-- after a write a read of the range gives the written bytes
 abbrev pub A-read-after-a-write : Type 0
 A-read-after-a-write =
     (G : Geometry) (d a : List ℕ) (m o : ℕ) (new : List ℕ) → Range G d a m o (length new) →
     readOf G d (writeOf G d a m o new) m o (length new) ≡ new
 
--- "and other user units keep theirs"
+-- and other user units keep theirs
 abbrev pub Other-user-units-keep-their-bytes : Type 0
 Other-user-units-keep-their-bytes =
     (G : Geometry) (d a : List ℕ) (m o : ℕ) (new : List ℕ) → Range G d a m o (length new) →
@@ -79,7 +79,7 @@ A-write-leaves-each-set-as-it-was =
     (G : Geometry) (d a : List ℕ) (m o : ℕ) (new : List ℕ) → Range G d a m o (length new) →
     (s : ℕ) → s < setsOf G → setZero G d (writeOf G d a m o new) s ≡ setZero G d a s
 
--- so it "keeps consistent what was"
+-- so a consistent array stays consistent
 abbrev pub A-write-keeps-a-consistent-array-consistent : Type 0
 A-write-keeps-a-consistent-array-consistent =
     (G : Geometry) (d a : List ℕ) (m o : ℕ) (new : List ℕ) → Range G d a m o (length new) →
