@@ -5,26 +5,26 @@ use Rattle.writing.proofs.add_at_four.Statement.{statement}
 use Rattle.writing.proofs.add_at_four.Tie as tie
 
 slice-aggregate-add-run : tie.Need-slice-aggregate-add-run
-slice-aggregate-add-run c = front-length _ _ (search needs)
+slice-aggregate-add-run c = search (needs, front-length)
 
 add-run-requires : tie.Need-add-run-requires
 add-run-requires c κs = search (needs, front-fits)
 
 slice-aggregate-add-run-2 : tie.Need-slice-aggregate-add-run-2
-slice-aggregate-add-run-2 c = front-length _ _ (search needs)
+slice-aggregate-add-run-2 c = search (needs, front-length)
 
 add-run-requires-2 : tie.Need-add-run-requires-2
 add-run-requires-2 c κs = rw (c .before .before .before .before .add-run .kept .0) (search (needs, front-fits))
 
 slice-aggregate-add-run-3 : tie.Need-slice-aggregate-add-run-3
-slice-aggregate-add-run-3 c = front-length _ _ (search needs)
+slice-aggregate-add-run-3 c = search (needs, front-length)
 
 add-run-requires-3 : tie.Need-add-run-requires-3
 add-run-requires-3 c κs =
     rw (c .before .before .before .before .add-run2 .kept .0, c .before .before .before .before .before .before .before .before .before .add-run .kept .0) (search (needs, front-fits))
 
 slice-aggregate-add-run-4 : tie.Need-slice-aggregate-add-run-4
-slice-aggregate-add-run-4 c = front-length _ _ (search needs)
+slice-aggregate-add-run-4 c = search (needs, front-length)
 
 add-run-requires-4 : tie.Need-add-run-requires-4
 add-run-requires-4 c κs =
