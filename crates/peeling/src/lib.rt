@@ -1,0 +1,1 @@
+// The passes of a rebuild over the cells of one tuple: definitions and theorems only.
