@@ -1,0 +1,25 @@
+-- 01's examples 7 and 8: what the passes do with design F, g = 3, when disks 0,1,2,3 or 0,1,3,4 are lost. Assumes nothing.
+use Prim.Native.Nat.{ℕ}
+use mathlib.Core.Path.{_≡_}
+use mathlib.Core.Bool.{true, false}
+use mathlib.Core.List.{List, [], _∷_, _++_}
+use lib.ListN.{length, replicate}
+use Rattle.counting.specs.Counting.{lowest}
+use Rattle.counting.specs.Lists.{listOf}
+use Rattle.cells.specs.Figure.{shelf}
+use Rattle.reaching.specs.Reach.{stepsOf, incomplete}
+
+-- "Design F is document 000's equation 1"
+abbrev pub F : List ℕ
+F = 0 ∷ 2 ∷ 6 ∷ 0 ∷ 1 ∷ 3 ∷ 1 ∷ 2 ∷ 4 ∷ 2 ∷ 3 ∷ 5 ∷ 3 ∷ 4 ∷ 6 ∷ 0 ∷ 4 ∷ 5 ∷ 1 ∷ 5 ∷ 6 ∷ []
+
+-- the first disks' marks; the other disks are present
+abbrev pub marked : List ℕ → List ℕ
+marked first = first ++ replicate 16 0
+
+pub record Lost-disks : Type 0 where
+  -- disks 0,1,2,3: 36 units restored, tuple by tuple
+  pub restored : listOf (λ (t : ℕ). length (stepsOf shelf F (marked (1 ∷ 1 ∷ 1 ∷ 1 ∷ 0 ∷ [])) t)) 7 ≡ 9 ∷ 12 ∷ 3 ∷ 0 ∷ 0 ∷ 9 ∷ 3 ∷ []
+  pub complete : lowest (incomplete shelf F (marked (1 ∷ 1 ∷ 1 ∷ 1 ∷ 0 ∷ []))) 7 ≡ 7
+  -- disks 0,1,3,4: "refusal 13, place 1"
+  pub stuck : lowest (incomplete shelf F (marked (1 ∷ 1 ∷ 0 ∷ 1 ∷ 1 ∷ []))) 7 ≡ 1
