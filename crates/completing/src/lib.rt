@@ -1,0 +1,1 @@
+// Which losses the passes always undo: definitions and theorems only.
