@@ -15,15 +15,7 @@ use Rattle.leaves.proofs.Xor.{xor-swap, xor-zero-same}
 use Rattle.peeling.specs.Peeling.{Side, Step, restored, presentAfter, peeled, restSum, byteAfter}
 use Rattle.peeling.specs.Theorems.{Own, AllZero, sideSum, Consistent-bytes-come-back, Lost-bytes-do-not-count}
 use Rattle.peeling.proofs.Sides.{Among, lacks-only-rest}
-use Rattle.peeling.proofs.Histories.{
-  Valid,
-  peeled-valid,
-  present-from-start,
-  present-restored,
-  present-either,
-  restored-none,
-  restored-either,
-}
+use Rattle.peeling.proofs.Histories.{Valid, peeled-valid, present-either, present-elsewhere, restored-none}
 
 -- ---- the XOR of a set's rest
 
@@ -79,6 +71,10 @@ zero-rest b x s o z =
 
 -- ---- the bytes after the steps
 
+pub byte-none : (b : ℕ → ℕ) (x : ℕ) → byteAfter b [] x ≡ b x
+unfolding byteAfter
+byte-none b x = refl
+
 pub byte-here :
     (b : ℕ → ℕ) (s : Step) (ss : List Step) (x : ℕ) → s .cell ≡ x →
     byteAfter b (s ∷ ss) x ≡ restSum (byteAfter b ss) (s .side) (s .side .size)
@@ -99,16 +95,6 @@ byte-not-restored b (s ∷ ss) x h =
     byte-elsewhere b s ss x (eqb-false (s .cell) x (none .0)) ∙ byte-not-restored b ss x (none .1)
 
 module _ (start : ℕ → Bool) (sides : ℕ → List Side) (n : ℕ) where
-  -- present after one step more: the step's cell, or present before
-  present-before :
-      (s : Step) (ss : List Step) (x : ℕ) → (s .cell ≡ x → ⊥) → presentAfter start (s ∷ ss) x ≡ true →
-      presentAfter start ss x ≡ true
-  present-before s ss x ne h =
-      ⊎-elim (present-from-start start ss x)
-      (λ (r : restored (s ∷ ss) x ≡ true).
-      ⊎-elim (λ (e : s .cell ≡ x). absurd (ne e)) (present-restored start ss x) (restored-either s ss x r))
-      (present-either start (s ∷ ss) x h)
-
   pub bytes-same :
       (a b : ℕ → ℕ) → ((x : ℕ) → start x ≡ true → a x ≡ b x) → (ss : List Step) → Valid start sides n ss →
       (x : ℕ) → presentAfter start ss x ≡ true → byteAfter a ss x ≡ byteAfter b ss x
@@ -125,7 +111,7 @@ module _ (start : ℕ → Bool) (sides : ℕ → List Side) (n : ℕ) where
           (λ q l ne. ih (s .side .member q) (lacks-only-rest (presentAfter start ss) (s .side) (f .lacks) q l ne))
           ∙ sym (byte-here b s ss x e)
       go (no e) ih =
-          byte-elsewhere a s ss x e ∙ ih x (present-before s ss x e h) ∙ sym (byte-elsewhere b s ss x e)
+          byte-elsewhere a s ss x e ∙ ih x (sym (present-elsewhere start s ss x e) ∙ h) ∙ sym (byte-elsewhere b s ss x e)
 
   zero-among : (b : ℕ → ℕ) (x : ℕ) (vs : List Side) (v : Side) → AllZero b x vs → Among v vs → restSum b v (v .size) ≡ b x
   zero-among b x (w ∷ ws) v ((o, z), zs) (inl e) = rw e (zero-rest b x w o z)

@@ -9,9 +9,9 @@ use native.Mathlib.Decide.{ℕ-discrete}
 use native.Mathlib.Omega.{arith}
 use lib.Dec.{eqb}
 use lib.ListN.{length}
-use borrow.Author.Tests.{eq-eqb, ne-eqb}
+use borrow.Author.Tests.{eq-eqb, ne-eqb, eqb-true}
 use Rattle.counting.specs.Counting.{countBelow, oneMoreIf}
-use Rattle.counting.proofs.Bools.{bool-either, bool-not-both, or-none}
+use Rattle.counting.proofs.Bools.{bool-either, bool-not-both, and-both, and-right-false, or-one, or-none, not-is-true}
 use Rattle.counting.proofs.Laws.{count-suc, count-same, count-none, count-le}
 use Rattle.peeling.specs.Peeling.{Side, Step, restored, presentAfter, peeled}
 use Rattle.peeling.specs.Theorems.{Reached, Each-cell-is-restored-once}
@@ -42,10 +42,33 @@ count-one-more f c (suc n) l h = go (ℕ-discrete c n) (λ (m : c < n). count-on
         step true m = refl
         step false m = refl
 
+-- a test that passes wherever another does counts no fewer
+pub count-within :
+    (f h : ℕ → Bool) (n : ℕ) → ((i : ℕ) → i < n → f i ≡ true → h i ≡ true) → countBelow f n ≤ countBelow h n
+unfolding countBelow
+count-within f h zero e = omega arith
+count-within f h (suc n) e =
+    step (f n) (h n) (countBelow f n) (countBelow h n) (e n (omega arith)) (count-within f h n (λ i q. e i (omega arith)))
+  where
+    step : (a b : Bool) (x y : ℕ) → (a ≡ true → b ≡ true) → x ≤ y → oneMoreIf a x ≤ oneMoreIf b y
+    step true true x y w l = omega arith
+    step true false x y w l = bool-not-both false (w refl) refl
+    step false true x y w l = omega arith
+    step false false x y w l = l
+
+-- no cell is restored twice
+abbrev pub Apart : List Step → Type 0
+Apart [] = Unit {0}
+Apart (s ∷ ss) = (restored ss (s .cell) ≡ false) × Apart ss
+
 module _ (start : ℕ → Bool) (sides : ℕ → List Side) (n : ℕ) where
   not-restored-yet : (s : Step) (ss : List Step) → Fits start sides n s ss → restored ss (s .cell) ≡ false
   unfolding presentAfter
   not-restored-yet s ss f = or-none (start (s .cell)) (restored ss (s .cell)) (f .missing) .1
+
+  pub valid-apart : (ss : List Step) → Valid start sides n ss → Apart ss
+  valid-apart [] v = tt {0}
+  valid-apart (s ∷ ss) (f, v) = (not-restored-yet s ss f, valid-apart ss v)
 
   pub length-counts : (ss : List Step) → Valid start sides n ss → length ss ≡ countBelow (restored ss) n
   unfolding restored
@@ -77,6 +100,9 @@ each-cell-is-restored-once start sides n =
       missing = restored-missing start sides n (peeled start sides n) v;
       few = length-low start sides n (peeled start sides n) v;
     }
+
+pub no-cell-is-restored-twice : (start : ℕ → Bool) (sides : ℕ → List Side) (n : ℕ) → Apart (peeled start sides n)
+no-cell-is-restored-twice start sides n = valid-apart start sides n (peeled start sides n) (peeled-valid start sides n)
 
 -- the count of restored units: those missing at the start and present at the end
 pub the-count-of-restored-cells :
@@ -112,6 +138,37 @@ the-count-where-all-are-reached start sides n all =
     and-true : (b : Bool) → (b && true) ≡ b
     and-true true = refl
     and-true false = refl
+
+-- and only there, so a count tells whether every cell is reached
+pub all-are-reached-by-count :
+    (start : ℕ → Bool) (sides : ℕ → List Side) (n : ℕ) →
+    length (peeled start sides n) ≡ countBelow (λ (x : ℕ). not (start x)) n → (x : ℕ) → x < n → Reached start sides n x
+unfolding presentAfter
+all-are-reached-by-count start sides n e x l =
+    ⊎-elim (λ (h : Reached start sides n x). h) (λ h. absurd (too-many h))
+    (bool-either (presentAfter start (peeled start sides n) x))
+  where
+    gained : ℕ → Bool
+    gained i = not (start i) && presentAfter start (peeled start sides n) i
+
+    lost : ℕ → Bool
+    lost i = not (start i)
+
+    too-many : presentAfter start (peeled start sides n) x ≡ false → ⊥
+    too-many h =
+        let more : countBelow (λ (i : ℕ). eqb x i || gained i) n ≡ suc (countBelow gained n) =
+        count-one-more gained x n l (and-right-false (lost x) (presentAfter start (peeled start sides n) x) h)
+        in
+        let at-most : countBelow (λ (i : ℕ). eqb x i || gained i) n ≤ countBelow lost n =
+        count-within (λ (i : ℕ). eqb x i || gained i) lost n (λ i q w. each i (or-one (eqb x i) (gained i) w))
+        in
+        omega (arith, e, the-count-of-restored-cells start sides n)
+      where
+        each : (i : ℕ) → (eqb x i ≡ true) ⊎ (gained i ≡ true) → lost i ≡ true
+        each i (inl w) =
+            ap lost (sym (eqb-true x i w))
+            ∙ not-is-true (start x) (or-none (start x) (restored (peeled start sides n) x) h .0)
+        each i (inr w) = and-both (lost i) (presentAfter start (peeled start sides n) i) w .0
 
 -- "6. No disk lost: accepted, 0 restored": with every cell present there are no steps
 pub nothing-is-restored :

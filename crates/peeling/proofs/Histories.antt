@@ -1,14 +1,14 @@
 -- What a visit does, and the one induction over visits, passes and all the passes: a property of the steps that one fitting
 -- step more keeps is kept by all of them. Assumes nothing.
 use Prim.Native.Nat.{ℕ, zero, suc, _≤_, _<_}
-use mathlib.Core.Path.{_≡_, refl, sym, subst, _∙_}
-use mathlib.Core.Bool.{Bool, true, false}
+use mathlib.Core.Path.{_≡_, refl, sym, ap, subst, _∙_}
+use mathlib.Core.Bool.{Bool, true, false, _||_}
 use mathlib.Core.Logic.{_⊎_, inl, inr, ⊎-elim}
 use mathlib.Core.List.{List, [], _∷_}
 use native.Mathlib.Omega.{arith}
 use lib.Dec.{eqb}
 use lib.ListN.{length}
-use borrow.Author.Tests.{eq-eqb, eqb-true}
+use borrow.Author.Tests.{eq-eqb, ne-eqb, eqb-true}
 use Rattle.counting.proofs.Bools.{bool-not-both, or-one, left-or, right-or}
 use Rattle.peeling.specs.Peeling.{
   Side,
@@ -58,6 +58,23 @@ unfolding restored
 restored-either s ss x h =
     ⊎-elim (λ (e : eqb (s .cell) x ≡ true). inl (eqb-true (s .cell) x e)) (λ (e : restored ss x ≡ true). inr e)
     (or-one (eqb (s .cell) x) (restored ss x) h)
+
+pub present-none : (start : ℕ → Bool) (x : ℕ) → presentAfter start [] x ≡ start x
+unfolding presentAfter restored
+present-none start x = or-false (start x)
+  where
+    or-false : (b : Bool) → (b || false) ≡ b
+    or-false true = refl
+    or-false false = refl
+
+pub present-here : (start : ℕ → Bool) (s : Step) (ss : List Step) (x : ℕ) → s .cell ≡ x → presentAfter start (s ∷ ss) x ≡ true
+present-here start s ss x e = present-restored start (s ∷ ss) x (restored-here s ss x e)
+
+pub present-elsewhere :
+    (start : ℕ → Bool) (s : Step) (ss : List Step) (x : ℕ) → (s .cell ≡ x → ⊥) →
+    presentAfter start (s ∷ ss) x ≡ presentAfter start ss x
+unfolding presentAfter restored
+present-elsewhere start s ss x ne = ap (λ (b : Bool). start x || (b || restored ss x)) (ne-eqb (s .cell) x ne)
 
 -- ---- one visit
 

@@ -6,10 +6,11 @@ use mathlib.Core.Logic.{_⊎_, inl, inr}
 use mathlib.Core.List.{List, [], _∷_}
 use native.Mathlib.Decide.{ℕ-discrete}
 use native.Mathlib.Nat.{suc-add, zero-add}
+use native.Mathlib.Numerals.{add-one}
 use native.Mathlib.Omega.{arith}
 use lib.Dec.{eqb}
 use lib.ListN.{length}
-use borrow.Author.Tests.{eq-eqb, eqb-true, eqb-false}
+use borrow.Author.Tests.{eq-eqb, ne-eqb, eqb-true, eqb-false}
 use Rattle.peeling.specs.Peeling.{Side, Step, orElse, visit, sweep, passes, peeled}
 use Rattle.peeling.specs.Theorems.{More-passes-restore-nothing, The-last-pass-restores-nothing}
 use Rattle.peeling.proofs.Histories.{Fits, Valid, Idle, Adds, visit-does, visit-keeps, sweep-keeps, sweep-valid}
@@ -138,6 +139,22 @@ module _ (start : ℕ → Bool) (sides : ℕ → List Side) (n : ℕ) where
           After (fuel + m) b ≡ After fuel b
       go true e ih = refl
       go false e ih = ih (fewer ss fuel l (eqb-false (length (sweep start sides n ss)) (length ss) e))
+
+  -- a loop of passes without fuel: one more where the last added a step, else the end
+  pub passes-go-on :
+      (ss : List Step) → Valid start sides n ss → (length (sweep start sides n ss) ≡ length ss → ⊥) →
+      passes start sides n n ss ≡ passes start sides n n (sweep start sides n ss)
+  unfolding passes
+  passes-go-on ss v ne =
+      sym (passes-more n 1 ss v (omega arith)) ∙ rw (add-one n) (again (ne-eqb (length (sweep start sides n ss)) (length ss) ne))
+    where
+      again :
+          eqb (length (sweep start sides n ss)) (length ss) ≡ false →
+          passes start sides n (suc n) ss ≡ passes start sides n n (sweep start sides n ss)
+      again e = ap (λ (b : Bool). orElse b ss (passes start sides n n (sweep start sides n ss))) e
+
+  pub passes-stop : (ss : List Step) → length (sweep start sides n ss) ≡ length ss → passes start sides n n ss ≡ ss
+  passes-stop ss e = passes-still n ss (sweep-still ss e)
 
 pub the-last-pass-restores-nothing : The-last-pass-restores-nothing
 unfolding peeled
