@@ -1,0 +1,4 @@
+pub mod Groups
+pub mod Closing
+pub mod Completes
+pub mod Theorems
