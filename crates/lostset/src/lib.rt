@@ -1,0 +1,1 @@
+// The set of lost disks (01, rebuild).
