@@ -1,0 +1,3 @@
+pub mod Rebuild
+pub mod Reasons
+pub mod Theorems
