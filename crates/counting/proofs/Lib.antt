@@ -1,4 +1,5 @@
 pub mod Ascending
+pub mod Bijections
 pub mod Bools
 pub mod Laws
 pub mod Lists
