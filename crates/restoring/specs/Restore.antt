@@ -1,5 +1,5 @@
 -- 01, "Calls" (rebuild): one unit of a set becomes "the XOR of the rest". Nothing here knows of disks. Assumes nothing.
-use Prim.Native.Nat.{ℕ, suc, _+_, _≤_, _<_}
+use Prim.Native.Nat.{ℕ, suc, _+_, _<_}
 use mathlib.Core.List.{List, _++_}
 use lib.ListN.{getD, length, take, drop}
 use Rattle.leaves.specs.Bytes.{sums, Inside, Spread}
