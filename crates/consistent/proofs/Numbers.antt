@@ -98,7 +98,7 @@ module _ (G : Geometry) (d : List ℕ) (f : ℕ → Cell) (n : ℕ) where
   start-low l h = omega (arith, starts-length)
 
   module _ (L : Laid G d) (v : (l : ℕ) → l < n → CellIn G (f l)) where
-    cells-inside : (m : ℕ) → m ≡ bytesOf G → Inside m cellStarts (G .u)
+    pub cells-inside : (m : ℕ) → m ≡ bytesOf G → Inside m cellStarts (G .u)
     cells-inside m e =
         record {
           inside = λ l h.
@@ -106,14 +106,14 @@ module _ (G : Geometry) (d : List ℕ) (f : ℕ → Cell) (n : ℕ) where
               rw (start-at l q, e) (each-unit-lies-in-the-array G d L (f l) (v l q));
         }
 
-    cells-spread : ((l m : ℕ) → f l ≡ f m → l ≡ m) → Spread cellStarts (G .u)
+    pub cells-spread : ((l m : ℕ) → l < n → m < n → f l ≡ f m → l ≡ m) → Spread cellStarts (G .u)
     cells-spread only =
         record {
           spread = λ l m h k ne.
               let p : l < n = start-low l h in
               let q : m < n = start-low m k in
               rw (start-at l p, start-at m q)
-              (no-two-units-share-a-byte G d L (f l) (f m) (v l p) (v m q) (λ e. ne (only l m e)));
+              (no-two-units-share-a-byte G d L (f l) (f m) (v l p) (v m q) (λ e. ne (only l m p q e)));
         }
 
 -- ---- the units of a set
@@ -154,10 +154,10 @@ module _ (G : Geometry) (d : List ℕ) (L : Laid G d) where
   unfolding outerStarts
   outer-spread t i c v =
       cells-spread G d (outerMember G t i c) (G .k) L (λ l h. outer-member-in G (L .sound) t i c l v h)
-      (λ l m. ap (λ (x : Cell). x .position))
+      (λ l m p q. ap (λ (x : Cell). x .position))
 
   pub inner-spread : (t l j : ℕ) → InnerIn G t l j → Spread (innerStarts G d t l j) (G .u)
   unfolding innerStarts
   inner-spread t l j v =
       cells-spread G d (innerMember G t l j) (G .g) L (λ i h. inner-member-in G (L .sound) t l j i v h)
-      (λ i m. ap (λ (x : Cell). x .row))
+      (λ i m p q. ap (λ (x : Cell). x .row))

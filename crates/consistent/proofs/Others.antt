@@ -11,7 +11,7 @@ use Rattle.leaves.proofs.Xor.{xor-cancel, xor-twice}
 xor-left : (x y z : ℕ) → bitXor x y ≡ bitXor x z → y ≡ z
 xor-left x y z e = sym (xor-cancel x y) ∙ ap (bitXor x) e ∙ xor-cancel x z
 
-xor-right : (x y z : ℕ) → bitXor x z ≡ bitXor y z → x ≡ y
+pub xor-right : (x y z : ℕ) → bitXor x z ≡ bitXor y z → x ≡ y
 xor-right x y z e = sym (xor-twice x z) ∙ ap (λ (w : ℕ). bitXor w z) e ∙ xor-twice y z
 
 module _ (a b : List ℕ) (i : ℕ) where

@@ -27,13 +27,13 @@ pub record InUnit (G : Geometry) (d : List ℕ) (n : ℕ) : Type 0 where
   pub is : n ≡ cellStart G d held-by + offset
 
 -- what is below a product has a factor that is not zero
-factor-pos : (m n q : ℕ) → q < m * n → 0 < n
+pub factor-pos : (m n q : ℕ) → q < m * n → 0 < n
 factor-pos m zero q h = absurd (omega arith)
 factor-pos m (suc n) q h = omega arith
 
 module _ (G : Geometry) (d : List ℕ) (L : Laid G d) where
   -- unit q, counted from disk 0's first, is on disk q / units
-  unit-place : (q : ℕ) → q < disksOf G * unitsOf G → PlaceIn G (place (q / unitsOf G) (q % unitsOf G))
+  pub unit-place : (q : ℕ) → q < disksOf G * unitsOf G → PlaceIn G (place (q / unitsOf G) (q % unitsOf G))
   unit-place q h =
       let pos : 0 < unitsOf G = factor-pos (disksOf G) (unitsOf G) q h in
       record { disk = div-lt-iff-lt-mul pos .1 h; unit = mod-lt q pos }

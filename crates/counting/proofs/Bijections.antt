@@ -6,7 +6,6 @@ use mathlib.Core.Logic.{_⊎_, inl, inr}
 use lib.Arith.{digits-div, digits-mod}
 use lib.Dec.{eqb}
 use native.Mathlib.Nat.{zero-mul, suc-mul, mul-one}
-use native.Mathlib.Omega.{arith}
 use borrow.Author.Tests.{eq-eqb, eqb-true}
 use Rattle.counting.specs.Counting.{countBelow}
 use Rattle.counting.proofs.Bools.{bool-either, bool-not-both, and-both, both-and}

@@ -48,7 +48,7 @@ rest-before b s (suc m) l =
     ap (λ (y : ℕ). bitXor y (b (s .member m))) (rest-before b s m (omega arith))
     ∙ sym (rest-other b s m (λ e. omega arith))
 
-rest-and-own :
+pub rest-and-own :
     (b : ℕ → ℕ) (s : Side) (m : ℕ) → s .own < m → sideSum b s m ≡ bitXor (restSum b s m) (b (s .member (s .own)))
 rest-and-own b s zero l = absurd (omega arith)
 rest-and-own b s (suc m) l = go (ℕ-discrete m (s .own)) (λ h. rest-and-own b s m h)
