@@ -1,4 +1,4 @@
--- What the blocks of a restored unit are: the rest gathered from both sides of the own run, a block stored, and block after block.
+-- The blocks of a restored unit: the rest gathered from both sides of the own run, a block stored, and block after block.
 -- Assumes nothing.
 use Prim.Native.Nat.{ℕ, suc, _+_, _-_, _≤_, _<_}
 use mathlib.Core.Path.{_≡_, refl, sym, _∙_, ap, ap₂, subst}
@@ -7,45 +7,52 @@ use native.Mathlib.Nat.{le-refl, zero-add}
 use native.Mathlib.Numerals.{add-one}
 use native.Mathlib.Omega.{arith}
 use lib.Bits.{bitXor}
-use lib.ListN.{getD, length, take, drop, length-drop}
+use lib.ListN.{getD, length, take, drop, replicate, length-drop}
 use lib.Seq.{length-take-le, getD-take, getD-drop, take-all}
 use borrow.Rule.Slice.PartMut.{midOf, putMid}
 use Rattle.counting.specs.Lists.{listOf}
 use Rattle.leaves.specs.Bytes.{xors, sumAt, sums, Inside}
-use Rattle.leaves.proofs.Runs.{same-bytes, bytes-of, bytes-xors, length-xors}
+use Rattle.leaves.proofs.Runs.{same-bytes, bytes-of, bytes-xors, length-xors, front-zeros}
 use Rattle.leaves.proofs.Sums.{sum-append, bytes-sums}
 use Rattle.leaves.proofs.Xor.{xor-assoc}
 use Rattle.restoring.specs.Restore.{stored, restOf, restoredIn, OneOf}
 use Rattle.restoring.proofs.Stored.{length-stored, stored-nil, stored-more, sum-stored, put-stored}
-use Rattle.restoring.proofs.Restored.{length-sums, sums-more, own-fits, rest-out}
+use Rattle.restoring.proofs.Restored.{length-sums, sums-more, one-shorter, own-fits, rest-out}
 
 -- ---- the sources before the q-th, and those past it
-module _ (m : ℕ) (ps : List ℕ) (q k : ℕ) (h : q < length ps) where
+module _ (ps : List ℕ) (q : ℕ) (h : q < length ps) where
   pub first-length : q ≡ length (take q ps)
   first-length = sym (length-take-le q ps (omega arith))
 
-  pub past-is : midOf (q + 1) (length ps - (q + 1)) ps ≡ drop (suc q) ps
+  past-is : midOf (q + 1) (length ps - (q + 1)) ps ≡ drop (suc q) ps
   past-is =
       ap (λ (n : ℕ). midOf n (length ps - n) ps) (add-one q)
       ∙ take-all (length ps - suc q) (drop (suc q) ps) (rw (length-drop (suc q) ps) (le-refl (length ps - suc q)))
 
-  pub inside-first : Inside m ps k → Inside m (take q ps) k
-  inside-first f = record {
-    inside =
-        λ (t : ℕ) (l : t < length (take q ps)).
-        let n : t < q = omega (arith, first-length) in
-        rw (getD-take q ps t 0 n) (f .inside t (omega arith));
-  }
+pub inside-first : (m : ℕ) (ps : List ℕ) (q k : ℕ) → OneOf m ps q k → Inside m (take q ps) k
+inside-first m ps q k o = record {
+  inside =
+      λ (t : ℕ) (l : t < length (take q ps)).
+      let n : t < q = omega (arith, first-length ps q (o .below)) in
+      rw (getD-take q ps t 0 n) (o .inside .inside t (omega (arith, o .below)));
+}
 
-  -- k bytes, as many as the n that fit
-  pub inside-past : (i n : ℕ) → k ≡ n → Inside m ps (i + n) → Inside m (midOf (q + 1) (length ps - (q + 1)) ps) (i + k)
-  inside-past i n e f =
-      rw past-is
-      (record {
-        inside =
-            λ (t : ℕ) (l : t < length (drop (suc q) ps)).
-            rw (getD-drop (suc q) ps t 0) (omega (arith, f .inside (suc q + t) (omega (arith, length-drop (suc q) ps))));
-      })
+-- k bytes, as many as the n that fit
+pub inside-past :
+    (m : ℕ) (ps : List ℕ) (q i n k : ℕ) → OneOf m ps q (i + n) → k ≡ n → Inside m (midOf (q + 1) (length ps - (q + 1)) ps) (i + k)
+inside-past m ps q i n k o e =
+    rw (past-is ps q (o .below))
+    (record {
+      inside =
+          λ (t : ℕ) (l : t < length (drop (suc q) ps)).
+          rw (getD-drop (suc q) ps t 0) (omega (arith, o .inside .inside (suc q + t) (omega (arith, length-drop (suc q) ps))));
+    })
+
+-- n of k zeros have room for n bytes of each source
+pub one-front :
+    (m : ℕ) (ps : List ℕ) (q i k n : ℕ) → n ≤ k → OneOf m ps q (i + n)
+    → OneOf m ps q (i + length {A = ℕ} (take n (replicate k 0)))
+one-front m ps q i k n h o = subst (λ (x : ℕ). OneOf m ps q (i + x)) (front-zeros k n h) o
 
 -- gathered one after the other
 pub gathered-rest :
@@ -54,7 +61,7 @@ pub gathered-rest :
 gathered-rest x y z a ps q i h f g =
     let n : length y ≡ length x = ap length f ∙ length-xors x _ in
     let e : z ≡ xors (xors x (sums a (take q ps) i (length x))) (sums a (drop (suc q) ps) i (length x)) =
-    g ∙ ap₂ (λ (l : List ℕ) (k : ℕ). xors y (sums a l i k)) (past-is 0 ps q 0 h) n
+    g ∙ ap₂ (λ (l : List ℕ) (k : ℕ). xors y (sums a l i k)) (past-is ps q h) n
     ∙ ap (λ (l : List ℕ). xors l (sums a (drop (suc q) ps) i (length x))) f in
     e
     ∙ same-bytes (bytes-xors (bytes-xors (bytes-of x) (sums a (take q ps) i (length x))) (sums a (drop (suc q) ps) i (length x)))
@@ -92,11 +99,8 @@ unfolding sums listOf
 restoring-none a ps q u o = record { one = o; most = omega arith; long = refl; is = sym (stored-nil a (getD ps q 0)) }
 
 module _ {a₀ ps : List ℕ} {q u : ℕ} {a : List ℕ} {i : ℕ} (r : Restoring a₀ ps q u a i) where
-  pub restoring-in : (k : ℕ) → k ≤ u - i → (q < length ps) × Inside (length a) ps (i + k)
-  restoring-in k h = (
-    r .one .below,
-    record { inside = λ (t : ℕ) (l : t < length ps). omega (arith, r .most, r .long, r .one .inside .inside t l) },
-  )
+  pub restoring-in : (k : ℕ) → k ≤ u - i → OneOf (length a) ps q (i + k)
+  restoring-in k h = rw (r .long) (one-shorter (length a₀) ps q u (i + k) (r .one) (omega (arith, r .most)))
 
   abbrev p : ℕ
   p = getD ps q 0
@@ -105,7 +109,7 @@ module _ {a₀ ps : List ℕ} {q u : ℕ} {a : List ℕ} {i : ℕ} (r : Restorin
   done = sums a₀ (restOf ps q) 0 i
 
   fits : p + length done ≤ length a₀
-  fits = rw (length-sums a₀ (restOf ps q) 0 i) (omega (arith, own-fits a₀ ps q u (r .one), r .most))
+  fits = rw (length-sums a₀ (restOf ps q) 0 i) (omega (arith, own-fits (r .one), r .most))
 
   -- the runs lie apart, so what is read is as it was
   still : (k : ℕ) → k ≤ u - i → sums a (restOf ps q) i k ≡ sums a₀ (restOf ps q) i k
@@ -134,14 +138,12 @@ module _ {a₀ ps : List ℕ} {q u : ℕ} {a : List ℕ} {i : ℕ} (r : Restorin
     long =
         ap length (restoring-add k b h e)
         ∙ length-stored a₀ p (sums a₀ (restOf ps q) 0 (i + k))
-        (rw (length-sums a₀ (restOf ps q) 0 (i + k)) (omega (arith, own-fits a₀ ps q u (r .one), r .most)));
+        (rw (length-sums a₀ (restOf ps q) 0 (i + k)) (omega (arith, own-fits (r .one), r .most)));
     is = restoring-add k b h e;
   }
 
-  pub restoring-rest-in : (k : ℕ) → u - i < k → (u - i < k) × (q < length ps) × Inside (length a) ps (i + (u - i))
-  restoring-rest-in k h =
-      let w : (q < length ps) × Inside (length a) ps (i + (u - i)) = restoring-in (u - i) (le-refl (u - i)) in
-      (h, w .0, w .1)
+  pub restoring-rest-in : (k : ℕ) → u - i < k → (u - i < k) × OneOf (length a) ps q (i + (u - i))
+  restoring-rest-in k h = (h, restoring-in (u - i) (le-refl (u - i)))
 
   pub restoring-rest : (b : List ℕ) → b ≡ stored a (p + i) (sums a (restOf ps q) i (u - i)) → b ≡ restoredIn a₀ ps q u
   unfolding restoredIn

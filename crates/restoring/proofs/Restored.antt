@@ -66,7 +66,8 @@ module _ (ps : List ℕ) (q : ℕ) (h : q < length ps) where
         same = List·getD-append (take q ps) (drop (suc q) ps) 0 t (rw length-first k) ∙ getD-take q ps t 0 k;
       }
       go (no k) =
-          let n : length (restOf ps q) ≡ length (take q ps) + length (drop (suc q) ps) = length-append (take q ps) (drop (suc q) ps) in
+          let n : length (restOf ps q) ≡ length (take q ps) + length (drop (suc q) ps) =
+          length-append (take q ps) (drop (suc q) ps) in
           let e : t ≡ q + (t - q) = omega arith in
           let f : suc q + (t - q) ≡ suc t = omega arith in
           record {
@@ -87,6 +88,28 @@ module _ (ps : List ℕ) (q : ℕ) (h : q < length ps) where
       ∙ ap (bitXor x) (xor-comm y z) ∙ sym (xor-assoc x z y)
       ∙ ap (λ (s : ℕ). bitXor s y) (sym (sum-append a (take q ps) (drop (suc q) ps) i))
 
+-- ---- runs one of which is the q-th
+pub own-fits : {m : ℕ} {ps : List ℕ} {q u : ℕ} → OneOf m ps q u → getD ps q 0 + u ≤ m
+own-fits {m} {ps} {q} o = o .inside .inside q (o .below)
+
+-- shorter runs
+pub one-shorter : (m : ℕ) (ps : List ℕ) (q u k : ℕ) → OneOf m ps q u → k ≤ u → OneOf m ps q k
+one-shorter m ps q u k o h = record {
+  inside = record { inside = λ (t : ℕ) (l : t < length ps). omega (arith, o .inside .inside t l) };
+  spread = record {
+    spread =
+        λ (s t : ℕ) (i : s < length ps) (j : t < length ps) (e : s ≡ t → ⊥).
+        let x : ℕ = getD ps s 0 in
+        let y : ℕ = getD ps t 0 in
+        record {
+          apart =
+              ⊎-elim (λ (l : x + u ≤ y). inl (omega arith)) (λ (l : y + u ≤ x). inr (omega arith))
+              (o .spread .spread s t i j e .apart);
+        };
+  };
+  below = o .below;
+}
+
 -- ---- one of the runs becomes the sum of the others
 module _ (a ps : List ℕ) (q u : ℕ) (o : OneOf (length a) ps q u) where
   abbrev p : ℕ
@@ -97,9 +120,6 @@ module _ (a ps : List ℕ) (q u : ℕ) (o : OneOf (length a) ps q u) where
 
   abbrev new : List ℕ
   new = sums a rest 0 u
-
-  pub own-fits : p + u ≤ length a
-  own-fits = o .inside .inside q (o .below)
 
   pub rest-apart : (t : ℕ) → t < length rest → Apart p u (getD rest t 0) u
   rest-apart t l =
@@ -114,7 +134,7 @@ module _ (a ps : List ℕ) (q u : ℕ) (o : OneOf (length a) ps q u) where
       ⊎-elim (λ (m : p + u ≤ r). inr (omega arith)) (λ (m : r + u ≤ p). inl (omega arith)) (rest-apart t l .apart)
 
   fits-new : p + length new ≤ length a
-  fits-new = rw (length-sums a rest 0 u) own-fits
+  fits-new = rw (length-sums a rest 0 u) (own-fits o)
 
   pub restored-length : length (restoredIn a ps q u) ≡ length a
   unfolding restoredIn
@@ -159,8 +179,8 @@ module _ (a ps : List ℕ) (q u : ℕ) (o : OneOf (length a) ps q u) where
   unfolding restoredIn
   restored-same z =
       ap (stored a p)
-      (same-bytes (bytes-sums a rest 0 u) (bytes-run a p u own-fits)
+      (same-bytes (bytes-sums a rest 0 u) (bytes-run a p u (own-fits o))
       (λ (i : ℕ) (l : i < u).
       ap (sumAt a rest) (zero-add i)
       ∙ xor-zero-same (sumAt a rest i) (getD a (p + i) 0) (sym (sum-rest ps q (o .below) a i) ∙ z i l)))
-      ∙ stored-same a p u own-fits
+      ∙ stored-same a p u (own-fits o)

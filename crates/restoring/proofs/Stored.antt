@@ -22,7 +22,11 @@ module _ (a : List ℕ) (p : ℕ) (xs : List ℕ) (fits : p + length xs ≤ leng
   unfolding stored
   length-stored =
       let e : length (take p a) ≡ p = length-front in
-      rw (length-append (take p a) (xs ++ drop (p + length xs) a), length-append xs (drop (p + length xs) a), length-drop (p + length xs) a)
+      rw (
+        length-append (take p a) (xs ++ drop (p + length xs) a),
+        length-append xs (drop (p + length xs) a),
+        length-drop (p + length xs) a,
+      )
       (omega arith)
 
   -- inside the run the bytes of xs

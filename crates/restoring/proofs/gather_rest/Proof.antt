@@ -8,10 +8,10 @@ add-next : tie.Need-add-next
 add-next c = search needs
 
 slice-aggregate-gather : tie.Need-slice-aggregate-gather
-slice-aggregate-gather c = first-length 0 _ _ 0 (c .before .before .before .before .before .pre .0)
+slice-aggregate-gather c = first-length _ _ (c .before .before .before .before .before .pre .below)
 
 gather-requires : tie.Need-gather-requires
-gather-requires c κs = inside-first _ _ _ _ (c .before .before .before .before .before .pre .0) (c .before .before .before .before .before .pre .1)
+gather-requires c κs = inside-first _ _ _ _ (c .before .before .before .before .before .pre)
 
 mul-gather : tie.Need-mul-gather
 mul-gather c = search needs
@@ -27,16 +27,16 @@ part-gather-end c = search needs
 
 gather-requires-2 : tie.Need-gather-requires-2
 gather-requires-2 c κs =
-    inside-past _ _ _ _ (c .before .before .before .before .before .before .before .before .before .before .pre .0) _ _
+    inside-past _ _ _ _ _ _ (c .before .before .before .before .before .before .before .before .before .before .pre)
     (c .before .before .before .before .gather .kept .0)
-    (c .before .before .before .before .before .before .before .before .before .before .pre .1)
 
 same-length : tie.Need-same-length
 same-length c = search needs
 
 returns : tie.Need-returns
 returns c =
-    gathered-rest _ _ _ _ _ _ _ (c .before .before .before .before .before .before .before .before .before .before .before .before .before .pre .0)
+    gathered-rest _ _ _ _ _ _ _
+    (c .before .before .before .before .before .before .before .before .before .before .before .before .before .pre .below)
     (c .before .before .before .before .before .before .before .gather .ensures) (c .before .before .gather2 .ensures)
 
 pub gather-rest-spec : {M : Type 1} → statement M

@@ -2,6 +2,7 @@
 use mathlib.Core.Path.{refl}
 use native.Mathlib.Omega.{arith}
 use Rattle.leaves.proofs.Runs.{at-zeros}
+use Rattle.restoring.proofs.Restored.{own-fits}
 use Rattle.restoring.proofs.Blocks.{block-stored}
 use borrow.Author.Needs.{needs}
 use Rattle.restoring.proofs.restore_block.Statement.{statement}
@@ -14,10 +15,10 @@ shared-slice-read-p : tie.Need-shared-slice-read-p
 shared-slice-read-p c = search needs
 
 add-p : tie.Need-add-p
-add-p c = omega (arith, c .before .before .before .pre .1 .inside _ (c .before .before .before .pre .0))
+add-p c = omega (arith, own-fits (c .before .before .before .pre))
 
 add-end : tie.Need-add-end
-add-end c = omega (arith, c .before .before .before .pre .1 .inside _ (c .before .before .before .pre .0))
+add-end c = omega (arith, own-fits (c .before .before .before .pre))
 
 slice-aggregate-gather-rest : tie.Need-slice-aggregate-gather-rest
 slice-aggregate-gather-rest c = search needs
@@ -33,7 +34,7 @@ part-copy-into-start c = search needs
 
 part-copy-into-end : tie.Need-part-copy-into-end
 part-copy-into-end c =
-    omega (arith, c .before .before .before .before .before .before .before .pre .1 .inside _ (c .before .before .before .before .before .before .before .pre .0))
+    omega (arith, own-fits (c .before .before .before .before .before .before .before .pre))
 
 slice-aggregate-copy-into : tie.Need-slice-aggregate-copy-into
 slice-aggregate-copy-into c = search needs
@@ -46,7 +47,8 @@ same-length c = search needs
 
 returns : tie.Need-returns
 returns c =
-    block-stored _ _ _ _ _ _ _ 64 refl (at-zeros 64) (c .before .before .before .before .before .before .gather-rest .ensures) (c .before .before .copy-into .ensures)
+    block-stored _ _ _ _ _ _ _ 64 refl (at-zeros 64)
+    (c .before .before .before .before .before .before .gather-rest .ensures) (c .before .before .copy-into .ensures)
 
 pub restore-block-spec : {M : Type 1} → statement M
 restore-block-spec =

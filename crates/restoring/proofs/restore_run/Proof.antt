@@ -35,7 +35,8 @@ loop-less c = search needs
 
 loop-again : tie.Need-loop-again Inv-loop μ-loop
 loop-again c =
-    restoring-more (c .before .before .before .before .before .loop .inv) 64 _ (c .before .before .before .before .loop-test .taken) (c .before .before .restore-block .ensures)
+    restoring-more (c .before .before .before .before .before .loop .inv) 64 _
+    (c .before .before .before .before .loop-test .taken) (c .before .before .restore-block .ensures)
 
 sub-restore-rest : tie.Need-sub-restore-rest Inv-loop μ-loop
 sub-restore-rest c = search needs
