@@ -1,0 +1,3 @@
+pub mod Contracts
+pub mod Sets
+pub mod Theorems

@@ -1,1 +1,2 @@
 pub mod Lost
+pub mod Theorems
