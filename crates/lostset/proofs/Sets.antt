@@ -106,17 +106,17 @@ cleared-marked flags disk h =
     set-set flags disk false true ∙ ap (set flags disk) (sym h) ∙ set-getD flags disk false
 
 -- ---- as the marks have it
-pub flags-length : (marks : List ℕ) → length (flagsOf marks) ≡ disksMost
-unfolding flagsOf
-flags-length marks =
-    length-map (listOf (λ (x : ℕ). getD marks x 0) disksMost) (λ (m : ℕ). eqb m 1)
-    ∙ listOf-length (λ (x : ℕ). getD marks x 0) disksMost
-
 flags-at : (marks : List ℕ) (x : ℕ) → x < disksMost → has (flagsOf marks) x ≡ eqb (getD marks x 0) 1
 unfolding flagsOf
 flags-at marks x l =
     List·getD-map (λ (m : ℕ). eqb m 1) (listOf (λ (y : ℕ). getD marks y 0) disksMost) x 0
     ∙ ap (λ (m : ℕ). eqb m 1) (listOf-at (λ (y : ℕ). getD marks y 0) disksMost x 0 l)
+
+pub flags-length : (marks : List ℕ) → length (flagsOf marks) ≡ disksMost
+unfolding flagsOf
+flags-length marks =
+    length-map (listOf (λ (x : ℕ). getD marks x 0) disksMost) (λ (m : ℕ). eqb m 1)
+    ∙ listOf-length (λ (x : ℕ). getD marks x 0) disksMost
 
 pub flags-has : (marks : List ℕ) (x : ℕ) → has (flagsOf marks) x ≡ hasOfMarks marks x
 unfolding hasOfMarks

@@ -1,6 +1,7 @@
 -- The statements of specs/Theorems.antt hold. Assumes nothing.
 use mathlib.Core.Bool.{true, false}
 use Rattle.lostset.specs.Theorems.{
+  Every-disk-has-a-flag,
   None-has-no-disk,
   A-marked-disk-is-in-the-set,
   A-cleared-disk-is-not,
@@ -9,7 +10,11 @@ use Rattle.lostset.specs.Theorems.{
   A-number-too-high-changes-nothing,
   The-set-of-the-marks,
 }
+use Rattle.geometry.proofs.Laws.{disks-bound}
 use Rattle.lostset.proofs.Sets.{none-has, marked-has, cleared-has, marked-cleared, cleared-marked, set-past, flags-has}
+
+pub every-disk-has-a-flag : Every-disk-has-a-flag
+every-disk-has-a-flag = disks-bound
 
 pub none-has-no-disk : None-has-no-disk
 none-has-no-disk = none-has

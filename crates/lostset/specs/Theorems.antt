@@ -5,6 +5,8 @@ use mathlib.Core.Path.{_≡_}
 use mathlib.Core.Bool.{Bool, true, false}
 use mathlib.Core.List.{List}
 use lib.ListN.{length}
+use Rattle.geometry.specs.declared.Geometry.{Geometry}
+use Rattle.geometry.specs.Geometry.{Sound, disksOf}
 use Rattle.lostset.specs.Lost.{
   disksMost,
   has,
@@ -16,6 +18,10 @@ use Rattle.lostset.specs.Lost.{
   hasAfterClear,
   hasOfMarks,
 }
+
+-- every disk of an array has a flag
+abbrev pub Every-disk-has-a-flag : Type 0
+Every-disk-has-a-flag = (G : Geometry) → Sound G → disksOf G ≤ disksMost
 
 abbrev pub None-has-no-disk : Type 0
 None-has-no-disk = (x : ℕ) → has noneMarked x ≡ false

@@ -1,5 +1,6 @@
 // The set of lost disks (01, rebuild): "a value that hands back a new one when a disk is added or taken out".
 ghost use mathlib.Core.Path.{_≡_};
+ghost use lib.ListN.{set};
 ghost use Rattle.lostset.specs.Lost.{has, noneMarked, marked, cleared, flagsOf};
 use geometry::Disk;
 
@@ -17,27 +18,28 @@ impl LostSet {
         }
     }
 
-    // A number too high leaves the set as it is.
-    pub fn mark(mut self, disk: Disk) -> LostSet
-        ensures { λ r. ⌜ r .flags ≡ marked (self .flags) (disk .0) ⌝ }
+    // The set with one flag as given. A number too high leaves it as it is.
+    fn put(mut self, disk: Disk, lost: bool) -> LostSet
+        ensures { λ r. ⌜ r .flags ≡ set (self .flags) (disk .0) lost ⌝ }
     {
         let at = disk.0 as usize;
         if 1183 <= at {
             return self;
         }
-        self.flags[at] = true;
+        self.flags[at] = lost;
         self
     }
 
-    pub fn clear(mut self, disk: Disk) -> LostSet
+    pub fn mark(self, disk: Disk) -> LostSet
+        ensures { λ r. ⌜ r .flags ≡ marked (self .flags) (disk .0) ⌝ }
+    {
+        self.put(disk, true)
+    }
+
+    pub fn clear(self, disk: Disk) -> LostSet
         ensures { λ r. ⌜ r .flags ≡ cleared (self .flags) (disk .0) ⌝ }
     {
-        let at = disk.0 as usize;
-        if 1183 <= at {
-            return self;
-        }
-        self.flags[at] = false;
-        self
+        self.put(disk, false)
     }
 
     pub fn has(self, disk: Disk) -> bool

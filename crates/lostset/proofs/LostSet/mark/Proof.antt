@@ -1,21 +1,13 @@
 -- `lostset::LostSet::mark` meets its contract. Assumes nothing.
-use mathlib.Core.Bool.{true}
-use Rattle.lostset.proofs.Sets.{set-past}
 use borrow.Author.Needs.{needs}
 use Rattle.lostset.proofs.LostSet.mark.Statement.{statement}
 use Rattle.lostset.proofs.LostSet.mark.Tie as tie
 
-cast-at : tie.Need-cast-at
-cast-at c = search needs
+put-requires : tie.Need-put-requires
+put-requires c κs = search needs
 
 returns : tie.Need-returns
-returns c = set-past (c .before .before .args .t1 .flags) _ (search needs) (c .if1 .taken) true
-
-element-write-self : tie.Need-element-write-self
-element-write-self c = search needs
-
-returns-2 : tie.Need-returns-2
-returns-2 c = search needs
+returns c = c .put .ensures
 
 pub mark-spec : {M : Type 1} → statement M
-mark-spec = tie.close (tie.spec cast-at returns element-write-self returns-2)
+mark-spec = tie.close (tie.spec put-requires returns)
