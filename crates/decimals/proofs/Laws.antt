@@ -1,7 +1,7 @@
 -- The decimal of a number, digit by digit: what a proof about it goes by. Assumes nothing.
 use Prim.Native.Nat.{ℕ, zero, suc, _+_, _-_, _*_, _/_, _%_, _^_, _<_, _≤_}
 use mathlib.Core.Path.{_≡_, refl, sym, ap, _∙_}
-use mathlib.Core.Bool.{true, false, _&&_}
+use mathlib.Core.Bool.{true, false}
 use mathlib.Core.Logic.{_⊎_, inl, inr}
 use mathlib.Core.List.{List, [], _∷_, _++_}
 use native.Mathlib.Nat.{pow-suc, not-suc-le-zero, le-refl}
@@ -75,6 +75,14 @@ from-append : (n : ℕ) (xs ys : List ℕ) → decimalFrom n (xs ++ ys) ≡ deci
 unfolding decimalFrom
 from-append n [] ys = refl
 from-append n (x ∷ xs) ys = from-append (n * 10 + (x - 48)) xs ys
+
+pub from-none : (n : ℕ) → decimalFrom n [] ≡ n
+unfolding decimalFrom
+from-none n = refl
+
+pub from-cons : (n x : ℕ) (xs : List ℕ) → decimalFrom n (x ∷ xs) ≡ decimalFrom (n * 10 + (x - 48)) xs
+unfolding decimalFrom
+from-cons n x xs = refl
 
 from-one : (n x : ℕ) → decimalFrom n (x ∷ []) ≡ n * 10 + (x - 48)
 unfolding decimalFrom
