@@ -1,0 +1,4 @@
+pub mod Plan
+pub mod Reasons
+pub mod Theorems
+pub mod Example
