@@ -1,1 +1,9 @@
+pub mod Answers
 pub mod Example
+pub mod Lengths
+pub mod Lists
+pub mod Same
+pub mod Sources
+pub mod Stored
+pub mod Taken
+pub mod Theorems

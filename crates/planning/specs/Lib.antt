@@ -1,4 +1,5 @@
 pub mod Plan
+pub mod Written
 pub mod Reasons
 pub mod Theorems
 pub mod Example
