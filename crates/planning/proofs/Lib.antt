@@ -2,8 +2,10 @@ pub mod Answers
 pub mod Example
 pub mod Lengths
 pub mod Lists
+pub mod Reasons
 pub mod Same
 pub mod Sources
 pub mod Stored
 pub mod Taken
 pub mod Theorems
+pub mod TwoResults
