@@ -98,7 +98,7 @@ each-cell-is-restored-once start sides n =
     record {
       below = restored-below start sides n (peeled start sides n) v;
       missing = restored-missing start sides n (peeled start sides n) v;
-      few = length-low start sides n (peeled start sides n) v;
+      counted = length-counts start sides n (peeled start sides n) v;
     }
 
 pub no-cell-is-restored-twice : (start : ℕ → Bool) (sides : ℕ → List Side) (n : ℕ) → Apart (peeled start sides n)

@@ -6,6 +6,7 @@ use mathlib.Core.Logic.{_⊎_, _↔_}
 use mathlib.Core.List.{List, [], _∷_}
 use lib.Bits.{bitXor}
 use lib.ListN.{length}
+use Rattle.counting.specs.Counting.{countBelow}
 use Rattle.peeling.specs.Peeling.{Side, Step, restored, presentAfter, sweep, passes, peeled, byteAfter}
 
 -- every unit of the set but the cell's own is in R
@@ -47,11 +48,11 @@ The-last-pass-restores-nothing =
     (start : ℕ → Bool) (sides : ℕ → List Side) (n : ℕ) →
     sweep start sides n (peeled start sides n) ≡ peeled start sides n
 
--- each cell is restored at most once, was missing, and is below n
+-- a restored cell is below n and was missing; there are as many steps as cells restored, so each is restored once
 pub record Once (start : ℕ → Bool) (ss : List Step) (n : ℕ) : Type 0 where
   pub below : (x : ℕ) → restored ss x ≡ true → x < n
   pub missing : (x : ℕ) → restored ss x ≡ true → start x ≡ false
-  pub few : length ss ≤ n
+  pub counted : length ss ≡ countBelow (restored ss) n
 
 abbrev pub Each-cell-is-restored-once : Type 0
 Each-cell-is-restored-once = (start : ℕ → Bool) (sides : ℕ → List Side) (n : ℕ) → Once start (peeled start sides n) n
