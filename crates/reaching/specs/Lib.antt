@@ -1,3 +1,4 @@
 pub mod Reach
 pub mod Theorems
 pub mod Example
+pub mod State
