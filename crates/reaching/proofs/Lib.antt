@@ -1,5 +1,7 @@
+pub mod Ends
 pub mod Example
 pub mod Fills
+pub mod Logs
 pub mod Members
 pub mod Numbers
 pub mod Scans

@@ -95,6 +95,26 @@ module _ (G : Geometry) (x : Cell) where
       (fun-ext (λ (i : ℕ). rw e (inner-unit (diagonalOf G x) i)))
 
   module _ (s : Sound G) (h : CellIn G x) where
+    -- every unit of a set is a cell of the tuple
+    outer-low : (c l : ℕ) → l < G .k → numberOf G (outerMember G (x .tuple .0) (x .row) c l) < tupleCellsOf G
+    outer-low c l q =
+        number-low G (outerMember G (x .tuple .0) (x .row) c l)
+        (record { tuple = h .tuple; position = q; row = h .row; column = labelColumn-lt (G .g) l (x .row) c (omega arith) })
+
+    inner-low : (j i : ℕ) → i < G .g → numberOf G (innerMember G (x .tuple .0) (x .position) j i) < tupleCellsOf G
+    inner-low j i q =
+        number-low G (innerMember G (x .tuple .0) (x .position) j i)
+        (record { tuple = h .tuple; position = h .position; row = q; column = diagonalColumn-lt (G .g) j i (omega arith) })
+
+    pub outer-unit-low : (l : ℕ) → l < outerSide G x .size → outerSide G x .member l < tupleCellsOf G
+    unfolding outerSide
+    outer-unit-low l q = outer-low (labelOf G x) l q
+
+    pub inner-unit-low : (i : ℕ) → i < innerSide G x .size → innerSide G x .member i < tupleCellsOf G
+    unfolding innerSide
+    inner-unit-low i q = inner-low (diagonalOf G x) i q
+
+    -- and its seven numbers are small
     pub outer-set-in : (c : ℕ) → c < G .g → SetIn (tupleCellsOf G) (outerSet G x c)
     outer-set-in c p =
         record {
@@ -105,29 +125,21 @@ module _ (G : Geometry) (x : Cell) where
           turn = omega arith;
           g-low = omega arith;
           g-high = omega arith;
-          low = λ (l : ℕ) (q : l < G .k). rw (outer-unit c l) (number-low G (outerMember G (x .tuple .0) (x .row) c l) (cell-at l q));
+          low = λ (l : ℕ) (q : l < G .k). rw (outer-unit c l) (outer-low c l q);
         }
-      where
-        cell-at : (l : ℕ) → l < G .k → CellIn G (outerMember G (x .tuple .0) (x .row) c l)
-        cell-at l q =
-            record { tuple = h .tuple; position = q; row = h .row; column = labelColumn-lt (G .g) l (x .row) c (omega arith) }
 
     pub inner-set-in : (j : ℕ) → SetIn (tupleCellsOf G) (innerSet G x j)
     inner-set-in j =
+        let a : G .g * G .g ≤ 13 * 13 = product-le (G .g) (G .g) 13 13 (omega arith) (omega arith) in
+        let b : x .position * (G .g * G .g) ≤ 10 * (13 * 13) =
+        product-le (x .position) (G .g * G .g) 10 (13 * 13) (omega arith) a in
         record {
           size = omega arith;
-          base =
-              let a : G .g * G .g ≤ 13 * 13 = product-le (G .g) (G .g) 13 13 (omega arith) (omega arith) in
-              let b : x .position * (G .g * G .g) ≤ 10 * (13 * 13) = product-le (x .position) (G .g * G .g) 10 (13 * 13) (omega arith) a in
-              omega arith;
+          base = omega arith;
           step = omega arith;
           column = omega arith;
           turn = omega arith;
           g-low = omega arith;
           g-high = omega arith;
-          low = λ (i : ℕ) (q : i < G .g). rw (inner-unit j i) (number-low G (innerMember G (x .tuple .0) (x .position) j i) (cell-at i q));
+          low = λ (i : ℕ) (q : i < G .g). rw (inner-unit j i) (inner-low j i q);
         }
-      where
-        cell-at : (i : ℕ) → i < G .g → CellIn G (innerMember G (x .tuple .0) (x .position) j i)
-        cell-at i q =
-            record { tuple = h .tuple; position = h .position; row = q; column = diagonalColumn-lt (G .g) j i (omega arith) }

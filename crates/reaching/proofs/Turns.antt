@@ -75,7 +75,7 @@ kept-then s r q a b =
     go (inr h) (inl e) = let w : q .count ≡ r .count = ap (λ (x : State). x .count) e in inr (omega arith)
     go (inr h) (inr k) = inr (omega arith)
 
-kept-restored : (s : State) (n kind : ℕ) → n < length (s .flags) → seen (s .flags) n ≡ false → Kept s (restoredBy s n kind)
+pub kept-restored : (s : State) (n kind : ℕ) → n < length (s .flags) → seen (s .flags) n ≡ false → Kept s (restoredBy s n kind)
 unfolding restoredBy
 kept-restored s n kind h p =
     let m : missing (s .flags) ≡ missing (set (s .flags) n true) + 1 = missing-set (s .flags) n h p in

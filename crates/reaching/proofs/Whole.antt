@@ -59,6 +59,9 @@ module _ (G : Geometry) (d : List ℕ) (lost : List Bool) (t : ℕ) (flags : Lis
       kept : Kept (state start log 0) s
       kept = rw w (passed-kept G t (tupleCellsOf G) (state start log 0) (omega (arith, start-long)))
 
+      pub start-passed-long : length (s .flags) ≡ tupleCellsOf G
+      start-passed-long = kept .flags ∙ start-long
+
       pub reach-lengths : (length (s .flags) ≡ length flags) × (length (s .log) ≡ length log)
       reach-lengths = (omega (arith, kept .flags, start-long, m .cells), kept .log)
 

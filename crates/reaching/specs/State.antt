@@ -105,13 +105,14 @@ passed G t (suc fuel) s =
 
 -- ---- the log
 
+-- the set of a cell that an entry names: outer or inner
+abbrev pub kindSide : Geometry → Cell → (outer : Bool) → Side
+kindSide G x true = outerSide G x
+kindSide G x false = innerSide G x
+
 -- entry 2·cell + kind
 unfoldable pub stepOf : Geometry → (t entry : ℕ) → Step
-stepOf G t e = record { cell = e / 2; side = sideOfKind (eqb (e % 2) 0) }
-  where
-    sideOfKind : Bool → Side
-    sideOfKind true = outerSide G (cellNumbered G t (e / 2))
-    sideOfKind false = innerSide G (cellNumbered G t (e / 2))
+stepOf G t e = record { cell = e / 2; side = kindSide G (cellNumbered G t (e / 2)) (eqb (e % 2) 0) }
 
 -- its first n entries as steps, newest first
 unfoldable pub logSteps : Geometry → (t : ℕ) → List ℕ → (n : ℕ) → List Step
