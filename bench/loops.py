@@ -6,11 +6,11 @@ from tables import prose, table
 
 CALLS = ("format", "read", "write", "audit")
 CASE = (7, 3, 3)
-SIZES = (63, 64, 4095, 4096)
-ABOUT = """
+SIZES = (127, 128, 4095, 4096)
+ABOUT = f"""
 By disassembly of the linked archive, with the instructions that one call ran on F, g = 3 (callgrind). Listed are the loops that
 ran, have no packed access and take 8 bytes or fewer at a time: those whose turns depend on u, and those that take single bytes. A
-tail turns as often at u = 4095 as at 63 and at 4096 as at 64: whole blocks add no turn. What is the same at each u belongs to the
+tail turns as often at u = 4095 as at {SIZES[0]} and at 4096 as at {SIZES[1]}: whole blocks add no turn. What is the same at each u belongs to the
 check of the design, which stops at the first fault, and to the marks.
 """
 PACKED = "No loop grows with u: every byte loop is packed but for its tail."
@@ -83,7 +83,7 @@ def narrow_loops(code):
 
 
 def kind(turns):
-    """A tail turns as often at 4095 as at 63 and at 4096 as at 64: whole blocks that u gains add no turn of it."""
+    """A tail turns as often at 4095 as at 127 and at 4096 as at 128: whole blocks that u gains add no turn of it."""
     if turns[0] == turns[2] and turns[1] == turns[3]:
         return "same at each u" if turns[0] == turns[1] else "tail"
     return "grows with u"
@@ -137,6 +137,6 @@ def inspect(say, root, archive):
 def report(totals, rows, growing, baseline):
     found = "Not packed: " + "; ".join(growing) + "." if growing else PACKED
     out = [prose(ABOUT), "", found, ""]
-    out += table(["call", "bytes moved packed at u = 4096", "accesses of 1 to 4 bytes at u = 64", "at 4096", "calls"], totals)
-    heads = ["loop", "bytes an access", "instructions", "turns at u = 63", "64", "4095", "4096", "kind", "in"]
+    out += table(["call", "bytes moved packed at u = 4096", "accesses of 1 to 4 bytes at u = 128", "at 4096", "calls"], totals)
+    heads = ["loop", "bytes an access", "instructions", "turns at u = 127", "128", "4095", "4096", "kind", "in"]
     return out + ["", *table(heads, rows), "", f"C's own loops are packed too: {', '.join(baseline)}."]

@@ -1,5 +1,5 @@
 // Runs of bytes inside one lent array: bytes XORed into one, and the test whether several XOR to zero, which goes block by block,
-// with 64 bytes in a local.
+// with 128 bytes in a local.
 ghost use mathlib.Core.Path.{_≡_};
 ghost use Prim.Native.Nat.{_+_, _≤_, _<_};
 ghost use lib.ListN.{length};
@@ -30,22 +30,22 @@ pub fn gather(room: &mut [u8], array: &[u8], starts: &[usize], i: usize)
     }
 }
 
-// Whether one block of the sources XORs to zero. The block stays in registers.
+// Whether one block of the sources XORs to zero. It stays in registers (a block of 64 does not: its zero test is unrolled too early).
 fn zero_block(array: &[u8], starts: &[usize], i: usize) -> bool
-    requires { ⌜ Inside (length (now array)) (now starts) (i + 64) ⌝ }
-    ensures { λ r. ⌜ r ≡ zeroSumFrom (now (array .entry)) (now (starts .entry)) i 64 ⌝ }
+    requires { ⌜ Inside (length (now array)) (now starts) (i + 128) ⌝ }
+    ensures { λ r. ⌜ r ≡ zeroSumFrom (now (array .entry)) (now (starts .entry)) i 128 ⌝ }
 {
-    let mut room = [0u8; 64];
+    let mut room = [0u8; 128];
     gather(&mut room, array, starts, i);
     leaves::zero(&room)
 }
 
 // The same for what is left after the blocks.
 fn zero_rest(array: &[u8], starts: &[usize], i: usize, n: usize) -> bool
-    requires { ⌜ (n < 64) × Inside (length (now array)) (now starts) (i + n) ⌝ }
+    requires { ⌜ (n < 128) × Inside (length (now array)) (now starts) (i + n) ⌝ }
     ensures { λ r. ⌜ r ≡ zeroSumFrom (now (array .entry)) (now (starts .entry)) i n ⌝ }
 {
-    let mut room = [0u8; 64];
+    let mut room = [0u8; 128];
     let e = &mut room[..n];
     gather(e, array, starts, i);
     leaves::zero(e)
@@ -57,11 +57,11 @@ pub fn zero_sum(array: &[u8], starts: &[usize], u: usize) -> bool
     ensures { λ r. ⌜ r ≡ zeroSum (now (array .entry)) (now (starts .entry)) u ⌝ }
 {
     let mut i: usize = 0;
-    while 64 <= u - i {
+    while 128 <= u - i {
         if !zero_block(array, starts, i) {
             return false;
         }
-        i += 64;
+        i += 128;
     }
     zero_rest(array, starts, i, u - i)
 }

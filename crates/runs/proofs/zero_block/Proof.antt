@@ -19,7 +19,7 @@ zero-requires : tie.Need-zero-requires
 zero-requires c κs = search needs
 
 returns : tie.Need-returns
-returns c = zero-gathered _ _ _ _ _ 64 refl (at-zeros 64) (c .before .before .before .gather .ensures) _ (c .zero .ensures)
+returns c = zero-gathered _ _ _ _ _ 128 refl (at-zeros 128) (c .before .before .before .gather .ensures) _ (c .zero .ensures)
 
 pub zero-block-spec : {M : Type 1} → statement M
 zero-block-spec =

@@ -19,11 +19,11 @@ sub-loop : tie.Need-sub-loop Inv-loop μ-loop
 sub-loop c = search needs
 
 zero-block-requires : tie.Need-zero-block-requires Inv-loop μ-loop
-zero-block-requires c κs = zeroed-in (c .before .loop .inv) 64 (c .loop-test .taken)
+zero-block-requires c κs = zeroed-in (c .before .loop .inv) 128 (c .loop-test .taken)
 
 returns : tie.Need-returns Inv-loop μ-loop
 returns c =
-    zeroed-not (c .before .before .before .loop .inv) 64 _ (c .before .before .loop-test .taken) (c .before .zero-block .ensures) (not-true _ (c .if1 .taken))
+    zeroed-not (c .before .before .before .loop .inv) 128 _ (c .before .before .loop-test .taken) (c .before .zero-block .ensures) (not-true _ (c .if1 .taken))
 
 add-i : tie.Need-add-i Inv-loop μ-loop
 add-i c = search needs
@@ -33,13 +33,13 @@ loop-less c = search needs
 
 loop-again : tie.Need-loop-again Inv-loop μ-loop
 loop-again c =
-    zeroed-more (c .before .before .before .loop .inv) 64 _ (c .before .before .loop-test .taken) (c .before .zero-block .ensures) (not-false _ (c .if1 .left))
+    zeroed-more (c .before .before .before .loop .inv) 128 _ (c .before .before .loop-test .taken) (c .before .zero-block .ensures) (not-false _ (c .if1 .left))
 
 sub-zero-rest : tie.Need-sub-zero-rest Inv-loop μ-loop
 sub-zero-rest c = search needs
 
 zero-rest-requires : tie.Need-zero-rest-requires Inv-loop μ-loop
-zero-rest-requires c κs = zeroed-rest-in (c .before .loop .inv) 64 (c .loop-test .left)
+zero-rest-requires c κs = zeroed-rest-in (c .before .loop .inv) 128 (c .loop-test .left)
 
 returns-2 : tie.Need-returns-2 Inv-loop μ-loop
 returns-2 c = zeroed-rest (c .before .before .loop .inv) _ (c .zero-rest .ensures)
