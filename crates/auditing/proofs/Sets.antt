@@ -17,10 +17,11 @@ use Rattle.consistent.specs.Consistent.{setZero}
 use Rattle.consistent.proofs.Numbers.{set-starts-outer, set-starts-inner}
 use Rattle.sets.specs.Starts.{regionStarts, RegionFits, RegionsFit, labelStarts, diagonalStarts}
 use Rattle.sets.proofs.Starts.{label-length, diagonal-length, labels-inside, diagonals-inside, label-starts-are, diagonal-starts-are}
-use Rattle.auditing.specs.declared.Found.{Found}
-use Rattle.auditing.specs.Auditing.{foundBelow, auditOf}
-use Rattle.auditing.specs.Steps.{foundFrom, labelZero, diagonalZero, outerZeros, innerZeros, tupleFound}
-use Rattle.auditing.proofs.Steps.{from-none, from-bad, from-same, from-add, found, below-none, below-bad, below-from}
+use Rattle.finding.specs.declared.Found.{Found}
+use Rattle.finding.specs.Bad.{foundBelow, auditOf}
+use Rattle.finding.specs.Steps.{foundFrom}
+use Rattle.auditing.specs.Steps.{labelZero, diagonalZero, outerZeros, innerZeros, tupleFound}
+use Rattle.finding.proofs.Steps.{from-none, from-bad, from-same, from-add, found, below-none, below-bad, below-from}
 
 -- ---- the starts of one set, once they are filled in
 module _ (G : Geometry) (s : Sound G) (xs : List ℕ) where

@@ -13,14 +13,15 @@ use Rattle.refusal.proofs.Answer.{refused-accepted, accepted-value}
 use Rattle.refusal.proofs.Same.{same-refusal}
 use Rattle.geometry.specs.declared.Geometry.{Geometry}
 use Rattle.consistent.specs.Consistent.{Consistent}
-use Rattle.auditing.specs.declared.Found.{Found}
+use Rattle.finding.specs.declared.Found.{Found}
 use Rattle.auditing.specs.declared.Audited.{Audited}
 use Rattle.auditing.specs.declared.Audited.the-variants.{Refused}
 use Rattle.auditing.specs.declared.Audited.the-variants.{Found as FoundOf}
-use Rattle.auditing.specs.Auditing.{auditRules, auditOf, auditedOutcome}
+use Rattle.finding.specs.Bad.{auditOf}
+use Rattle.auditing.specs.Auditing.{auditRules, auditedOutcome}
 use Rattle.auditing.specs.Reasons.{auditRows}
 use Rattle.auditing.proofs.Reasons.{audit-exact}
-use Rattle.auditing.proofs.Theorems.{none-bad-exactly-if-consistent}
+use Rattle.finding.proofs.Theorems.{none-bad-exactly-if-consistent}
 use Rattle.auditing.proofs.audit.Reads as audit
 
 -- an answer is known by its outcome

@@ -1,4 +1,3 @@
 pub mod Auditing
 pub mod Reasons
-pub mod Theorems
 pub mod Steps

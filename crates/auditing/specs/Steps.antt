@@ -1,24 +1,13 @@
--- 01, "Calls" (audit): the count set by set, as the audit takes it: one set more, and some sets more from a number on.
--- Assumes nothing.
-use Prim.Native.Nat.{ℕ, zero, suc, _+_, _-_, _*_, _/_, _%_}
-use mathlib.Core.Bool.{Bool, true, false, cond}
+-- 01, "Calls" (audit): the sets of a tuple as the audit goes through them. Assumes nothing.
+use Prim.Native.Nat.{ℕ, _+_, _-_, _*_, _/_, _%_}
+use mathlib.Core.Bool.{Bool}
 use mathlib.Core.List.{List}
-use lib.Dec.{eqb}
 use lib.ListN.{getD}
 use Rattle.geometry.specs.declared.Geometry.{Geometry}
 use Rattle.leaves.specs.Bytes.{zeroSum}
 use Rattle.sets.specs.Starts.{labelStarts, diagonalStarts}
-use Rattle.auditing.specs.declared.Found.{Found}
-
--- what is found with set s, the next: it XORs to zero, or it does not
-abbrev pub withSet : Found → (s : ℕ) → (zero : Bool) → Found
-withSet f s true = f
-withSet f s false = record { bad = f .bad + 1; lowest = cond (eqb (f .bad) 0) s (f .lowest) }
-
--- what is found with n sets from number s on; zeros says which of them XOR to zero
-unfoldable pub foundFrom : (zeros : ℕ → Bool) → Found → (s n : ℕ) → Found
-foundFrom zeros f s zero = f
-foundFrom zeros f s (suc n) = withSet (foundFrom zeros f s n) (s + n) (zeros n)
+use Rattle.finding.specs.declared.Found.{Found}
+use Rattle.finding.specs.Steps.{foundFrom}
 
 -- the set of label (i,c) XORs to zero, in regions that begin at ps
 abbrev pub labelZero : Geometry → (ps a : List ℕ) → (i c : ℕ) → Bool

@@ -1,4 +1,5 @@
 // The audit: how many sets don't XOR to zero, and the lowest of them (01). It is lent no marks.
+use finding::Found;
 use geometry::Geometry;
 use geometry::Tuple;
 use refusal::Checked;
@@ -10,37 +11,14 @@ ghost use Rattle.refusal.specs.Refusal.{answer};
 ghost use Rattle.geometry.specs.Geometry.{Sound, tuplesOf, bytesOf};
 ghost use Rattle.design.specs.Design.{Laid};
 ghost use Rattle.sets.specs.Starts.{regionStarts, RegionFits, RegionsFit};
-ghost use Rattle.auditing.specs.Auditing.{auditRules, auditOf, auditedOutcome};
-ghost use Rattle.auditing.specs.Steps.{withSet, foundFrom, labelZero, diagonalZero, outerZeros, innerZeros, tupleFound};
-
-// "how many sets don't XOR to zero and the lowest such number, 0 if none"
-pub struct Found {
-    pub bad: u32,
-    pub lowest: u32,
-}
+ghost use Rattle.finding.specs.Bad.{auditOf};
+ghost use Rattle.finding.specs.Steps.{foundFrom};
+ghost use Rattle.auditing.specs.Auditing.{auditRules, auditedOutcome};
+ghost use Rattle.auditing.specs.Steps.{labelZero, diagonalZero, outerZeros, innerZeros, tupleFound};
 
 pub enum Audited {
     Found(Found),
     Refused(Refusal),
-}
-
-impl Found {
-    // What is found with set s, the next.
-    fn with_set(self, s: u32, zero: bool) -> Found
-        requires { ⌜ self .bad ≤ 2000000 ⌝ }
-        ensures { λ r. ⌜ r ≡ withSet self s zero ⌝ }
-    {
-        if zero {
-            return self;
-        }
-        if self.bad == 0 {
-            return Found { bad: 1, lowest: s };
-        }
-        Found {
-            bad: self.bad + 1,
-            lowest: self.lowest,
-        }
-    }
 }
 
 // The sets of the labels of one row, from number s on. The room for their starts is made once for all of them.

@@ -30,7 +30,8 @@ use Rattle.reading.proofs.Reasons.{read-exact}
 use Rattle.writing.specs.Writing.{writeRules}
 use Rattle.writing.specs.Reasons.{writeRows}
 use Rattle.writing.proofs.Reasons.{write-exact}
-use Rattle.auditing.specs.Auditing.{auditRules, auditOf}
+use Rattle.finding.specs.Bad.{auditOf}
+use Rattle.auditing.specs.Auditing.{auditRules}
 use Rattle.auditing.specs.Reasons.{auditRows}
 use Rattle.auditing.proofs.Reasons.{audit-exact}
 use Rattle.host.specs.declared.Answer.{Answer}

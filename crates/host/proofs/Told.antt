@@ -8,7 +8,7 @@ use Rattle.refusal.specs.Refusal.{Outcome, refused, accepted}
 use Rattle.refusal.specs.Due.{Row, Due, NoneDue, Exact}
 use Rattle.sizes.specs.declared.Sizes.{Sizes}
 use Rattle.layout.specs.declared.Four.{Four}
-use Rattle.auditing.specs.declared.Found.{Found}
+use Rattle.finding.specs.declared.Found.{Found}
 use Rattle.cells.specs.declared.Role.{Role}
 use Rattle.cells.specs.declared.Role.the-variants.{User, Outer, Inner}
 use Rattle.host.specs.declared.Answer.{Answer}

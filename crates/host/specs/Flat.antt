@@ -5,7 +5,7 @@ use Rattle.refusal.specs.Refusal.{Outcome, refused, accepted}
 use Rattle.geometry.specs.declared.Geometry.{Geometry}
 use Rattle.sizes.specs.declared.Sizes.{Sizes}
 use Rattle.layout.specs.declared.Four.{Four}
-use Rattle.auditing.specs.declared.Found.{Found}
+use Rattle.finding.specs.declared.Found.{Found}
 use Rattle.cells.specs.declared.Role.{Role}
 use Rattle.cells.specs.declared.Role.the-variants.{User, Outer, Inner}
 use Rattle.host.specs.declared.Answer.{Answer}

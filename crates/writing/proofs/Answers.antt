@@ -2,10 +2,12 @@
 use Prim.Native.Nat.{ℕ}
 use mathlib.Core.Path.{_≡_, refl, sym, ap, subst, _∙_}
 use mathlib.Core.List.{List, [], _∷_, _++_}
+use native.Mathlib.Omega.{arith}
 use lib.ListN.{length}
 use Rattle.refusal.specs.Refusal.{Outcome, refused, accepted, verdict, kept}
 use Rattle.refusal.proofs.Answer.{skip, stop}
 use Rattle.geometry.specs.declared.Geometry.{Geometry}
+use Rattle.geometry.specs.Geometry.{disksOf}
 use Rattle.layout.specs.declared.Four.{Four}
 use Rattle.layout.specs.Places.{fourOf}
 use Rattle.leaves.specs.Bytes.{written}
@@ -15,10 +17,21 @@ use Rattle.array.proofs.Fits.{ready}
 use Rattle.array.proofs.Range.{ranged}
 use Rattle.array.proofs.Kept.{kept-old, kept-new}
 use Rattle.reading.specs.Reading.{readOf}
-use Rattle.writing.specs.Writing.{writeCells, differenceOf, writeOf, writeRules}
-use Rattle.writing.specs.Ranges.{FourIn, FourMarked, dataStart, parityStarts}
+use Rattle.fourfold.specs.Writing.{writeCells, differenceOf, writeOf}
+use Rattle.fourfold.specs.Ranges.{FourIn, dataStart, parityStarts}
+use Rattle.fourfold.proofs.Places.{four-in}
+use Rattle.writing.specs.Writing.{FourMarked, writeRules}
 use Rattle.writing.proofs.Reasons.{twelfth}
-use Rattle.writing.proofs.Places.{four-in, four-marked}
+
+-- marks for all disks
+pub four-marked : (G : Geometry) (f : Four) → FourIn G f → (n : ℕ) → n ≡ disksOf G → FourMarked n f
+four-marked G f h n e =
+    record {
+      user = omega (arith, h .user .disk);
+      outer = omega (arith, h .outer .disk);
+      inner = omega (arith, h .inner .disk);
+      both = omega (arith, h .both .disk);
+    }
 
 -- the write at the four places of the user unit
 pub write-at :

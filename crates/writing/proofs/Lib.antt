@@ -1,12 +1,5 @@
 pub mod Reasons
 pub mod Twelve
-pub mod Places
 pub mod Answers
 pub mod TwoResults
-pub mod Bytes
-pub mod Starts
-pub mod Theorems
 pub mod Accepted
-pub mod Fronts
-pub mod Members
-pub mod Sets

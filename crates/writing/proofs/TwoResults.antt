@@ -16,7 +16,8 @@ use Rattle.geometry.specs.declared.Geometry.{Geometry}
 use Rattle.geometry.specs.declared.UserUnit.{UserUnit}
 use Rattle.array.proofs.Kept.{kept-old, kept-new}
 use Rattle.array.proofs.TwoResults.{some-checked}
-use Rattle.writing.specs.Writing.{writeOf, writeRules}
+use Rattle.fourfold.specs.Writing.{writeOf}
+use Rattle.writing.specs.Writing.{writeRules}
 use Rattle.writing.specs.Reasons.{writeRows}
 use Rattle.writing.proofs.Reasons.{write-exact}
 use Rattle.writing.proofs.write.Reads as write

@@ -1,4 +1,2 @@
 pub mod Writing
-pub mod Ranges
 pub mod Reasons
-pub mod Theorems

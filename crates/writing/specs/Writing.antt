@@ -1,34 +1,13 @@
--- 01, "Calls" (write) and "Refusal numbers", row 12 for the write. Assumes nothing.
-use Prim.Native.Nat.{ℕ, _+_}
+-- 01, "Refusal numbers", row 12 for the write, and which rows apply to it. Assumes nothing.
+use Prim.Native.Nat.{ℕ, _<_}
 use mathlib.Core.Bool.{Bool, cond, _||_}
-use mathlib.Core.List.{List, [], _∷_, _++_, map}
-use lib.ListN.{length}
+use mathlib.Core.List.{List, [], _∷_, _++_}
 use Rattle.refusal.specs.Refusal.{Rule, rule}
 use Rattle.geometry.specs.declared.Geometry.{Geometry}
-use Rattle.cells.specs.declared.Cell.{Cell}
-use Rattle.cells.specs.Roles.{userCell, userOuter, innerOf}
-use Rattle.layout.specs.declared.Place.{Place}
 use Rattle.layout.specs.declared.Four.{Four}
 use Rattle.layout.specs.Places.{fourOf}
 use Rattle.layout.specs.Marks.{lost}
-use Rattle.leaves.specs.Bytes.{xors, addAll}
-use Rattle.array.specs.Array.{cellStart}
 use Rattle.array.specs.Rules.{arrayRules, rangeRules}
-use Rattle.reading.specs.Reading.{readOf}
-
--- the cells of "the data unit, its outer parity, the inner parity of the data unit and the inner parity of the outer parity
--- unit"
-unfoldable pub writeCells : Geometry → ℕ → List Cell
-writeCells G m = userCell G m ∷ userOuter G m ∷ innerOf G (userCell G m) ∷ innerOf G (userOuter G m) ∷ []
-
--- "the difference of new and old bytes" of the range from offset o of user unit m
-unfoldable pub differenceOf : Geometry → List ℕ → List ℕ → (m o : ℕ) → List ℕ → List ℕ
-differenceOf G d a m o new = xors (readOf G d a m o (length new)) new
-
--- it "is XORed into" each of these cells' units, at the range's offset, one cell after the other
-unfoldable pub writeOf : Geometry → List ℕ → List ℕ → (m o : ℕ) → List ℕ → List ℕ
-writeOf G d a m o new =
-    addAll a (map (λ (x : Cell). cellStart G d x + o) (writeCells G m)) (differenceOf G d a m o new)
 
 -- "any of its four disks marked"
 unfoldable pub fourLost : Geometry → (marks : List ℕ) → Four → Bool
@@ -40,6 +19,13 @@ firstLost G marks f =
     cond (lost G marks (f .user)) (f .user .disk .0)
     (cond (lost G marks (f .outer)) (f .outer .disk .0)
     (cond (lost G marks (f .inner)) (f .inner .disk .0) (f .both .disk .0)))
+
+-- each of the four disks has one of n marks
+pub record FourMarked (n : ℕ) (f : Four) : Type 0 where
+  pub user : f .user .disk .0 < n
+  pub outer : f .outer .disk .0 < n
+  pub inner : f .inner .disk .0 < n
+  pub both : f .both .disk .0 < n
 
 -- rows 2 to 8 and 10 to 12
 unfoldable pub writeRules : Geometry → (design : List ℕ) → (bytes : ℕ) → (marks : List ℕ) → (m o n : ℕ) → List Rule

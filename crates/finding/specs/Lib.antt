@@ -1,0 +1,3 @@
+pub mod Bad
+pub mod Steps
+pub mod Theorems
