@@ -98,6 +98,8 @@ module _ (G : Geometry) (d : List ℕ) (w : Laid G d) (marks : List ℕ) (disks 
       record {
         steps = sym nothing;
         count = sym (ap length nothing);
+        room = omega arith;
+        low = λ (i : ℕ) (h : i < 0). absurd (omega arith);
         whole = sym (ap not none);
       }
     where
@@ -131,6 +133,8 @@ module _ (G : Geometry) (d : List ℕ) (w : Laid G d) (marks : List ℕ) (disks 
         record {
           steps = logged .steps;
           count = logged .count;
+          room = logged .room;
+          low = logged .low;
           whole =
               rw end-long
               (ap not

@@ -4,6 +4,7 @@ use mathlib.Core.Path.{_≡_, _∙_, ap, ap₂, sym, refl}
 use mathlib.Core.Bool.{Bool, true, false, not, cond, _&&_, _||_}
 use mathlib.Core.Logic.{_⊎_, inl, inr}
 use mathlib.Core.List.{List, [], _∷_}
+use native.Mathlib.Decide.{ℕ-discrete}
 use native.Mathlib.Nat.{mul-comm}
 use native.Mathlib.Numerals.{add-one}
 use native.Mathlib.Omega.{arith}
@@ -131,6 +132,7 @@ module _ (G : Geometry) (t : ℕ) (start : ℕ → Bool) where
     flags : (n : ℕ) → n < tupleCellsOf G → seen (s .flags) n ≡ presentAfter start ss n
     count : s .count ≡ length ss
     steps : logSteps G t (s .log) (s .count) ≡ ss
+    low : (i : ℕ) → i < s .count → getD (s .log) i 0 < 2 * tupleCellsOf G
     room : Room G s
 
   -- one more step
@@ -164,6 +166,17 @@ module _ (G : Geometry) (t : ℕ) (start : ℕ → Bool) where
           w .steps,
         )
 
+    -- the new entry is of a cell of the tuple too
+    low-more :
+        (kind : ℕ) → kind < 2 → (i : ℕ) → i < s .count + 1
+        → getD (set (s .log) (s .count) (2 * n + kind)) i 0 < 2 * tupleCellsOf G
+    low-more kind k i l = go (ℕ-discrete i (s .count))
+      where
+        go : Dec (i ≡ s .count) → getD (set (s .log) (s .count) (2 * n + kind)) i 0 < 2 * tupleCellsOf G
+        go (yes e) =
+            rw (e, getD-set-same (s .log) (s .count) (2 * n + kind) 0 (room-for G s n (w .room) h missing-at)) (omega arith)
+        go (no e) = rw (getD-set-other (s .log) (s .count) i (2 * n + kind) 0 e) (w .low i (omega arith))
+
     says-more : (kind : ℕ) → kind < 2 → Says (stepBy G t n (eqb kind 0) ∷ ss) (restoredBy s n kind)
     unfolding restoredBy
     says-more kind k =
@@ -171,6 +184,7 @@ module _ (G : Geometry) (t : ℕ) (start : ℕ → Bool) where
           flags = flags-more ss s n (eqb kind 0) w h;
           count = rw (w .count) (add-one (length ss));
           steps = steps-more kind k;
+          low = low-more kind k;
           room =
               room-kept G s (restoredBy s n kind)
               (kept-restored s n kind (omega (arith, w .room .flags)) missing-at) (w .room);
@@ -237,6 +251,7 @@ module _ (G : Geometry) (t : ℕ) (start : ℕ → Bool) where
           flags = λ (n : ℕ) (h : n < tupleCellsOf G). e n h ∙ sym (or-none-right (start n));
           count = refl;
           steps = refl;
+          low = λ (i : ℕ) (h : i < 0). absurd (omega arith);
           room = m;
         }
 
@@ -246,4 +261,10 @@ the-log-lists-what-the-passes-restore G d l marks t b flags log m e =
     let w : Says G t (hereOf G d marks t) (passes (hereOf G d marks t) (sidesOf G t) (tupleCellsOf G) (tupleCellsOf G) []) (passed G t (tupleCellsOf G) (state flags log 0)) =
     passes-says G t (hereOf G d marks t) (l .sound) b (tupleCellsOf G) [] (state flags log 0)
     (says-start G t (hereOf G d marks t) (l .sound) b flags log m e) in
-    record { steps = w .steps; count = w .count; flags = w .flags }
+    record {
+      steps = w .steps;
+      count = w .count;
+      room = omega (arith, w .room .log);
+      low = w .low;
+      flags = w .flags;
+    }

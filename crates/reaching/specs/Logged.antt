@@ -1,5 +1,5 @@
 -- What is proved of the log: it is what the passes restore, whatever flags and log held before. Assumes nothing.
-use Prim.Native.Nat.{ℕ, _<_}
+use Prim.Native.Nat.{ℕ, _*_, _≤_, _<_}
 use mathlib.Core.Path.{_≡_}
 use mathlib.Core.Bool.{Bool, false, not}
 use mathlib.Core.List.{List}
@@ -12,10 +12,13 @@ use Rattle.peeling.specs.Peeling.{presentAfter}
 use Rattle.reaching.specs.Reach.{tupleCellsOf, hereOf, stepsOf, incomplete}
 use Rattle.reaching.specs.State.{State, state, seen, Room, passed, logSteps, ReachRoom, reachedState, reachedAll}
 
--- the state after the passes: the log lists their steps, and the flags say which cells are present
+-- the state after the passes: the log lists their steps, each entry of a cell of the tuple, and the flags say which cells are
+-- present
 pub record Logged (G : Geometry) (d marks : List ℕ) (t : ℕ) (s : State) : Type 0 where
   pub steps : logSteps G t (s .log) (s .count) ≡ stepsOf G d marks t
   pub count : s .count ≡ length (stepsOf G d marks t)
+  pub room : s .count ≤ length (s .log)
+  pub low : (i : ℕ) → i < s .count → getD (s .log) i 0 < 2 * tupleCellsOf G
   pub flags : (n : ℕ) → n < tupleCellsOf G → seen (s .flags) n ≡ presentAfter (hereOf G d marks t) (stepsOf G d marks t) n
 
 -- "Passes repeat until one restores nothing": from flags that say what is present at the start, and an empty log
@@ -33,6 +36,8 @@ LostAs G marks lost = (x : ℕ) → x < disksOf G → getD lost x false ≡ eqb 
 pub record Ended (G : Geometry) (d marks : List ℕ) (t : ℕ) (s : State) (complete : Bool) : Type 0 where
   pub steps : logSteps G t (s .log) (s .count) ≡ stepsOf G d marks t
   pub count : s .count ≡ length (stepsOf G d marks t)
+  pub room : s .count ≤ length (s .log)
+  pub low : (i : ℕ) → i < s .count → getD (s .log) i 0 < 2 * tupleCellsOf G
   pub whole : complete ≡ not (incomplete G d marks t)
 
 abbrev pub A-tuple-ends-as-its-passes-do : Type 0
