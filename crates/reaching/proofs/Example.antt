@@ -1,4 +1,4 @@
--- 01's examples 7 and 8 are computed. Assumes nothing.
+-- 01's examples 7 and 8 and the order of trial are computed. Assumes nothing.
 use mathlib.Core.Path.{refl}
 use Rattle.counting.specs.Counting.{countBelow, lowest}
 use Rattle.counting.specs.Lists.{listOf}
@@ -14,4 +14,4 @@ use Rattle.reaching.specs.Example.{Lost-disks}
 
 pub lost-disks : Lost-disks
 unfolding countBelow lowest listOf rOf bOf unitsOf tuplesOf groupAt names labelColumn labelAt diagonalColumn diagonalAt partOf placeOf lost lacksOnly restored presentAfter tried visit sweep passes peeled tupleCellsOf numberOf cellNumbered outerSide innerSide sidesOf hereOf stepsOf incomplete
-lost-disks = record { restored = refl; complete = refl; stuck = refl }
+lost-disks = record { restored = refl; complete = refl; stuck = refl; trial = refl }

@@ -23,7 +23,7 @@ use Rattle.cells.specs.Ranges.{CellIn}
 use Rattle.cells.specs.Cells.{labelOf, diagonalOf}
 use Rattle.peeling.specs.Peeling.{Side, Step, lacksOnly, restored, presentAfter, orElse, tried, visit, sweep, passes, peeled}
 use Rattle.reaching.specs.Reach.{tupleCellsOf, cellNumbered, outerSide, innerSide, sidesOf, hereOf, stepsOf}
-use Rattle.reaching.specs.State.{State, state, seen, Room, outerRestores, firstOf, kindOf, restoredBy, stay}
+use Rattle.reaching.specs.State.{State, state, seen, Room, outerRestores, restoresBy, firstOf, kindOf, restoredBy, stay}
 use Rattle.reaching.specs.State.{visited, swept, passed, kindSide, stepOf, logSteps}
 use Rattle.reaching.specs.Logged.{Logged, The-log-lists-what-the-passes-restore}
 use Rattle.reaching.proofs.Numbers.{cell-in}
@@ -79,7 +79,7 @@ one-tried false o i ss = refl
 
 module _ (G : Geometry) (t : ℕ) (p : ℕ → Bool) (n : ℕ) (ss : List Step) where
   tried-is : tried p n (sidesOf G t n) ss ≡ byKind (stepBy G t n true) (stepBy G t n false) ss (kindOf G t p n)
-  unfolding tried sidesOf kindOf outerRestores
+  unfolding tried sidesOf kindOf restoresBy outerRestores
   tried-is = go (ltb (cellNumbered G t n .row) (G .g - 1))
     where
       x : Cell
@@ -102,7 +102,7 @@ first-le false false = omega arith
 
 kind-le : (G : Geometry) (t : ℕ) (p : ℕ → Bool) (n : ℕ) → kindOf G t p n ≤ 2
 unfolding kindOf
-kind-le G t p n = first-le (outerRestores G p (cellNumbered G t n)) (lacksOnly p (innerSide G (cellNumbered G t n)))
+kind-le G t p n = first-le (restoresBy G p (cellNumbered G t n) 0) (restoresBy G p (cellNumbered G t n) 1)
 
 -- two views that agree below m find the same
 lacks-same :
@@ -117,7 +117,7 @@ lacks-same p q m v e h =
 kind-same :
     (G : Geometry) (t : ℕ) (p q : ℕ → Bool) (n : ℕ) → Sound G → t < tuplesOf G → n < tupleCellsOf G
     → ((m : ℕ) → m < tupleCellsOf G → p m ≡ q m) → kindOf G t p n ≡ kindOf G t q n
-unfolding kindOf outerRestores
+unfolding kindOf restoresBy outerRestores
 kind-same G t p q n s b h e =
     let w : CellIn G (cellNumbered G t n) = cell-in G s t b n h in
     rw (

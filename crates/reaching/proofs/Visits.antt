@@ -12,7 +12,7 @@ use Rattle.geometry.specs.Geometry.{Sound}
 use Rattle.cells.specs.declared.Cell.{Cell}
 use Rattle.peeling.specs.Peeling.{Side, lacksOnly}
 use Rattle.reaching.specs.Reach.{tupleCellsOf, cellNumbered, outerSide, innerSide}
-use Rattle.reaching.specs.State.{State, state, seen, missing, Room, outerRestores, firstOf, kindOf, restoredBy, stay, visited}
+use Rattle.reaching.specs.State.{State, state, seen, missing, Room, outerRestores, restoresBy, kindOf, restoredBy, stay, visited}
 use Rattle.reaching.proofs.Members.{product-le}
 use Rattle.reaching.proofs.Turns.{missing-set}
 
@@ -34,19 +34,27 @@ module _ (G : Geometry) (present : ℕ → Bool) (x : Cell) where
   unfolding outerRestores
   by-label r v h e d = rw (lt-ltb (x .row) (G .g - 1) h, ← e) d
 
-module _ (G : Geometry) (t : ℕ) (present : ℕ → Bool) (n : ℕ) (x : Cell) (e : x ≡ cellNumbered G t n) (b : Bool) (d : b ≡ outerRestores G present x) where
+  pub by-outer : (kind : ℕ) (r : Bool) → (kind ≡ 1 → ⊥) → r ≡ outerRestores G present x → r ≡ restoresBy G present x kind
+  unfolding restoresBy
+  by-outer kind r h d = rw (ne-eqb kind 1 h) d
+
+  pub by-inner : (kind : ℕ) (r : Bool) (v : Side) → kind ≡ 1 → v ≡ innerSide G x → r ≡ lacksOnly present v → r ≡ restoresBy G present x kind
+  unfolding restoresBy
+  by-inner kind r v h e d = rw (eq-eqb kind 1 h, ← e) d
+
+module _ (G : Geometry) (t : ℕ) (present : ℕ → Bool) (n : ℕ) (x : Cell) (e : x ≡ cellNumbered G t n) (b : Bool) (d : b ≡ restoresBy G present x 0) where
   pub kind-outer : b ≡ true → 0 ≡ kindOf G t present n
   unfolding kindOf
   kind-outer p = rw (← e, ← d, p)
 
-  module _ (p : b ≡ false) (v : Side) (w : v ≡ innerSide G x) (r : Bool) (q : r ≡ lacksOnly present v) where
+  module _ (p : b ≡ false) (r : Bool) (q : r ≡ restoresBy G present x 1) where
     pub kind-inner : r ≡ true → 1 ≡ kindOf G t present n
     unfolding kindOf
-    kind-inner z = rw (← e, ← d, p, ← w, ← q, z)
+    kind-inner z = rw (← e, ← d, p, ← q, z)
 
     pub kind-neither : r ≡ false → 2 ≡ kindOf G t present n
     unfolding kindOf
-    kind-neither z = rw (← e, ← d, p, ← w, ← q, z)
+    kind-neither z = rw (← e, ← d, p, ← q, z)
 
 -- ---- what becomes of the state
 

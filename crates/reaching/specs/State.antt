@@ -2,7 +2,7 @@
 -- named. Assumes nothing.
 use Prim.Native.Nat.{ℕ, zero, suc, _+_, _-_, _*_, _/_, _%_, _≤_, _<_}
 use mathlib.Core.Path.{_≡_}
-use mathlib.Core.Bool.{Bool, true, false, not, _&&_, _||_}
+use mathlib.Core.Bool.{Bool, true, false, not, cond, _&&_, _||_}
 use mathlib.Core.List.{List, [], _∷_, _++_}
 use lib.Dec.{ltb, eqb}
 use lib.ListN.{getD, length, set}
@@ -66,6 +66,11 @@ pub record Room (G : Geometry) (s : State) : Type 0 where
 unfoldable pub outerRestores : Geometry → (present : ℕ → Bool) → Cell → Bool
 outerRestores G present x = ltb (x .row) (G .g - 1) && lacksOnly present (outerSide G x)
 
+-- a set of this kind restores the cell: 1 for the inner set, else the outer
+unfoldable pub restoresBy : Geometry → (present : ℕ → Bool) → Cell → (kind : ℕ) → Bool
+restoresBy G present x kind =
+    cond (eqb kind 1) (lacksOnly present (innerSide G x)) (outerRestores G present x)
+
 -- the order of trial: 0 for the outer set, 1 for the inner, 2 where neither lacks only the cell
 abbrev pub firstOf : (outer inner : Bool) → ℕ
 firstOf true inner = 0
@@ -74,7 +79,7 @@ firstOf false false = 2
 
 unfoldable pub kindOf : Geometry → (t : ℕ) → (present : ℕ → Bool) → ℕ → ℕ
 kindOf G t present n =
-    firstOf (outerRestores G present (cellNumbered G t n)) (lacksOnly present (innerSide G (cellNumbered G t n)))
+    firstOf (restoresBy G present (cellNumbered G t n) 0) (restoresBy G present (cellNumbered G t n) 1)
 
 -- cell n is present from now on, and the log says by which kind of set
 unfoldable pub restoredBy : State → (n kind : ℕ) → State

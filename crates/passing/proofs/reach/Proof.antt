@@ -1,9 +1,9 @@
--- `reaching::reach` meets its contract. Assumes nothing.
+-- `passing::reach` meets its contract. Assumes nothing.
 use native.Mathlib.Omega.{arith}
 use Rattle.reaching.proofs.Whole.{reach-left, start-room, reach-lengths, reach-end}
 use borrow.Author.Needs.{needs}
-use Rattle.reaching.proofs.reach.Statement.{statement}
-use Rattle.reaching.proofs.reach.Tie as tie
+use Rattle.passing.proofs.reach.Statement.{statement}
+use Rattle.passing.proofs.reach.Tie as tie
 
 touched-requires : tie.Need-touched-requires
 touched-requires c κs = search needs

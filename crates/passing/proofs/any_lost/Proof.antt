@@ -1,12 +1,12 @@
--- `reaching::any_lost` meets its contract: no disk so far is lost. Assumes nothing.
+-- `passing::any_lost` meets its contract: no disk so far is lost. Assumes nothing.
 use Rattle.reaching.proofs.Scans.{any-found, any-left}
 use Rattle.checking.proofs.Scan.{scanned-none, scanned-next, Scanned}
 use lib.ListN.{getD}
 use mathlib.Core.Bool.{false}
 use Prim.Native.Nat.{_+_, _-_}
 use borrow.Author.Needs.{needs}
-use Rattle.reaching.proofs.any_lost.Statement.{statement}
-use Rattle.reaching.proofs.any_lost.Tie as tie
+use Rattle.passing.proofs.any_lost.Statement.{statement}
+use Rattle.passing.proofs.any_lost.Tie as tie
 
 abbrev Inv-loop : tie.InvT-loop
 Inv-loop lost base g x₀ x = Scanned (λ i. getD lost (base + i) false) g x

@@ -1,9 +1,9 @@
--- `reaching::first_disk` meets its contract. Assumes nothing.
+-- `passing::first_disk` meets its contract. Assumes nothing.
 use Rattle.reaching.proofs.Fills.{disks-fit, first-disk-is}
 use native.Mathlib.Omega.{arith}
 use borrow.Author.Needs.{needs}
-use Rattle.reaching.proofs.first_disk.Statement.{statement}
-use Rattle.reaching.proofs.first_disk.Tie as tie
+use Rattle.passing.proofs.first_disk.Statement.{statement}
+use Rattle.passing.proofs.first_disk.Tie as tie
 
 row-start-requires : tie.Need-row-start-requires
 row-start-requires c κs = search needs

@@ -1,11 +1,11 @@
--- `reaching::touched` meets its contract: no disk of the groups so far is lost. Assumes nothing.
+-- `passing::touched` meets its contract: no disk of the groups so far is lost. Assumes nothing.
 use Rattle.reaching.proofs.Whole.{lostAt, group-next, group-lost, groups-held}
 use Rattle.checking.proofs.Scan.{Scanned, scanned-none}
 use native.Mathlib.Omega.{arith}
 use Prim.Native.Nat.{_-_}
 use borrow.Author.Needs.{needs}
-use Rattle.reaching.proofs.touched.Statement.{statement}
-use Rattle.reaching.proofs.touched.Tie as tie
+use Rattle.passing.proofs.touched.Statement.{statement}
+use Rattle.passing.proofs.touched.Tie as tie
 
 abbrev Inv-loop : tie.InvT-loop
 Inv-loop geometry design lost tuple g l₀ l = Scanned (lostAt geometry design lost (tuple .0)) (geometry .k) l

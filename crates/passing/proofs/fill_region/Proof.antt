@@ -1,12 +1,12 @@
--- `reaching::fill_region` meets its contract. Assumes nothing.
+-- `passing::fill_region` meets its contract. Assumes nothing.
 use Rattle.reaching.proofs.Fills.{Filling, row-end, region-none, region-row, region-all}
 use Rattle.cells.proofs.Steps.{product-fits}
 use Rattle.reaching.specs.State.{heldFrom}
 use native.Mathlib.Omega.{arith}
 use Prim.Native.Nat.{_-_, _*_, _%_, _≤_}
 use borrow.Author.Needs.{needs}
-use Rattle.reaching.proofs.fill_region.Statement.{statement}
-use Rattle.reaching.proofs.fill_region.Tie as tie
+use Rattle.passing.proofs.fill_region.Statement.{statement}
+use Rattle.passing.proofs.fill_region.Tie as tie
 
 abbrev Inv-loop : tie.InvT-loop
 Inv-loop flags₀ at lost base g i₀ flags i = (i ≤ g) × Filling flags₀ at (λ n. heldFrom lost base (n % g)) flags (i * g)

@@ -1,13 +1,13 @@
--- `reaching::all_seen` meets its contract: no flag so far is clear. Assumes nothing.
+-- `passing::all_seen` meets its contract: no flag so far is clear. Assumes nothing.
 use Rattle.reaching.proofs.Scans.{flag-clear, flags-set}
 use Rattle.reaching.specs.State.{seen}
 use Rattle.checking.proofs.Scan.{scanned-none, scanned-next, Scanned}
 use lib.ListN.{length}
 use mathlib.Core.Bool.{not}
 use Prim.Native.Nat.{_-_}
 use borrow.Author.Needs.{needs}
-use Rattle.reaching.proofs.all_seen.Statement.{statement}
-use Rattle.reaching.proofs.all_seen.Tie as tie
+use Rattle.passing.proofs.all_seen.Statement.{statement}
+use Rattle.passing.proofs.all_seen.Tie as tie
 
 abbrev Inv-loop : tie.InvT-loop
 Inv-loop flags n₀ n = Scanned (λ i. not (seen flags i)) (length flags) n

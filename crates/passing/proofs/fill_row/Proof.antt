@@ -1,12 +1,12 @@
--- `reaching::fill_row` meets its contract. Assumes nothing.
+-- `passing::fill_row` meets its contract. Assumes nothing.
 use Rattle.reaching.proofs.Fills.{Filling, filling-none, filling-one, filling-all}
 use Rattle.reaching.specs.State.{heldFrom}
 use native.Mathlib.Omega.{arith}
 use mathlib.Core.Path.{refl}
 use Prim.Native.Nat.{_-_, _≤_}
 use borrow.Author.Needs.{needs}
-use Rattle.reaching.proofs.fill_row.Statement.{statement}
-use Rattle.reaching.proofs.fill_row.Tie as tie
+use Rattle.passing.proofs.fill_row.Statement.{statement}
+use Rattle.passing.proofs.fill_row.Tie as tie
 
 abbrev Inv-loop : tie.InvT-loop
 Inv-loop flags₀ at lost base g x₀ flags x = (x ≤ g) × Filling flags₀ at (heldFrom lost base) flags x

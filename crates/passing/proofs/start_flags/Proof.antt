@@ -1,12 +1,12 @@
--- `reaching::start_flags` meets its contract: the regions so far are filled. Assumes nothing.
+-- `passing::start_flags` meets its contract: the regions so far are filled. Assumes nothing.
 use Rattle.reaching.proofs.Fills.{Filling, region-none, region-end, tuple-region, tuple-filled}
 use Rattle.reaching.proofs.Members.{product-le}
 use Rattle.reaching.specs.State.{startFlag}
 use native.Mathlib.Omega.{arith}
 use Prim.Native.Nat.{_-_, _*_, _≤_}
 use borrow.Author.Needs.{needs}
-use Rattle.reaching.proofs.start_flags.Statement.{statement}
-use Rattle.reaching.proofs.start_flags.Tie as tie
+use Rattle.passing.proofs.start_flags.Statement.{statement}
+use Rattle.passing.proofs.start_flags.Tie as tie
 
 abbrev Inv-loop : tie.InvT-loop
 Inv-loop geometry design lost tuple flags₀ g l₀ flags l = (l ≤ geometry .k) × Filling flags₀ 0 (startFlag geometry design lost (tuple .0)) flags (l * (geometry .g * geometry .g))
