@@ -167,7 +167,7 @@ def check_head(sheet, triples):
     must(said.v in SETS and said.k == len(SETS[said.v]) and said.g > 1, "v, k and g do not fit")
     must(said.disk == said.group * said.g + said.column and said.column < said.g and said.group < said.v, "disk, group and column")
     must(said.crc == zlib.crc32(printed(triples)), "the CRC-32 is another text's")
-    must(said.restored == len({triple[0] for triple in triples}) == sum(len(part.entries) for part in sheet.parts), "units restored")
+    must(said.restored == len({triple[0] for triple in triples}) == sum(len(part.entries) for part in sheet.parts), "units to do")
     must(said.read == len({triple[1:] for triple in triples}) == len(triples), "units to read")
     must(said.disks == len({triple[1] for triple in triples}), "disks to read from")
 
