@@ -1,11 +1,12 @@
 -- 01, "Calls" (rebuild): the bytes of the units that the passes restore in a tuple. Assumes nothing.
-use Prim.Native.Nat.{ℕ}
+use Prim.Native.Nat.{ℕ, _*_, _≤_, _<_}
 use mathlib.Core.List.{List, [], _∷_}
+use lib.ListN.{getD, length}
 use Rattle.counting.specs.Lists.{listOf}
 use Rattle.geometry.specs.declared.Geometry.{Geometry}
 use Rattle.array.specs.Array.{cellStart}
 use Rattle.peeling.specs.Peeling.{Side, Step}
-use Rattle.reaching.specs.Reach.{cellNumbered}
+use Rattle.reaching.specs.Reach.{tupleCellsOf, cellNumbered}
 use Rattle.restoring.specs.Restore.{restoredIn}
 
 -- where the units of a set of tuple t begin
@@ -20,3 +21,8 @@ stepBytes G d t s a = restoredIn a (sideStarts G d t (s .side)) (s .side .own) (
 unfoldable pub replayed : Geometry → List ℕ → (t : ℕ) → List Step → List ℕ → List ℕ
 replayed G d t [] a = a
 replayed G d t (s ∷ ss) a = stepBytes G d t s (replayed G d t ss a)
+
+-- a log as the passes leave it: its first entries, count of them, are there, each of a cell of the tuple
+pub record LogIn (G : Geometry) (log : List ℕ) (count : ℕ) : Type 0 where
+  pub room : count ≤ length log
+  pub low : (i : ℕ) → i < count → getD log i 0 < 2 * tupleCellsOf G

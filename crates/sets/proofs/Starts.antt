@@ -55,7 +55,7 @@ module _ (G : Geometry) where
     unit-fits = omega (arith, unit-is, unit-in p i x f h k, bytes-bound G s)
 
 -- lists are the same where their elements are
-same-elements : (f h : ℕ → ℕ) (n : ℕ) → ((i : ℕ) → i < n → f i ≡ h i) → listOf f n ≡ listOf h n
+pub same-elements : (f h : ℕ → ℕ) (n : ℕ) → ((i : ℕ) → i < n → f i ≡ h i) → listOf f n ≡ listOf h n
 unfolding listOf
 same-elements f h zero e = refl
 same-elements f h (suc n) e =
