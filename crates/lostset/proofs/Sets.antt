@@ -106,7 +106,7 @@ cleared-marked flags disk h =
     set-set flags disk false true ∙ ap (set flags disk) (sym h) ∙ set-getD flags disk false
 
 -- ---- as the marks have it
-flags-at : (marks : List ℕ) (x : ℕ) → x < disksMost → has (flagsOf marks) x ≡ eqb (getD marks x 0) 1
+pub flags-at : (marks : List ℕ) (x : ℕ) → x < disksMost → has (flagsOf marks) x ≡ eqb (getD marks x 0) 1
 unfolding flagsOf
 flags-at marks x l =
     List·getD-map (λ (m : ℕ). eqb m 1) (listOf (λ (y : ℕ). getD marks y 0) disksMost) x 0

@@ -1,3 +1,4 @@
 pub mod Rebuild
+pub mod Marked
 pub mod Reasons
 pub mod Theorems

@@ -29,11 +29,13 @@ restoredBelow G d marks (suc n) = restoredBelow G d marks n + length (stepsOf G 
 unfoldable pub restoredOf : Geometry → List ℕ → (marks : List ℕ) → ℕ
 restoredOf G d marks = restoredBelow G d marks (tuplesOf G)
 
--- rows 2 to 8, and 13: "rebuild leaves a tuple incomplete", at the "lowest such tuple"
+-- 13: "rebuild leaves a tuple incomplete", at the "lowest such tuple"
+abbrev pub tupleRule : Geometry → (design marks : List ℕ) → Rule
+tupleRule G d marks = rule 13 (anyBelow (incomplete G d marks) (tuplesOf G)) (lowest (incomplete G d marks) (tuplesOf G))
+
+-- rows 2 to 8, and 13
 unfoldable pub rebuildRules : Geometry → (design : List ℕ) → (bytes : ℕ) → (marks : List ℕ) → List Rule
-rebuildRules G d bytes marks =
-    arrayRules G d bytes marks
-    ++ (rule 13 (anyBelow (incomplete G d marks) (tuplesOf G)) (lowest (incomplete G d marks) (tuplesOf G)) ∷ [])
+rebuildRules G d bytes marks = arrayRules G d bytes marks ++ (tupleRule G d marks ∷ [])
 
 -- 01's number, place and value for each answer
 abbrev pub rebuiltOutcome : Rebuilt → Outcome ℕ
