@@ -1,3 +1,4 @@
+pub mod Accepted
 pub mod Answers
 pub mod Bytes
 pub mod ComeBack
@@ -6,3 +7,4 @@ pub mod Phases
 pub mod Present
 pub mod Reasons
 pub mod Theorems
+pub mod TwoResults
