@@ -46,7 +46,7 @@ fn first_incomplete(geometry: Geometry, design: &[u16], lost: &[bool]) -> u32
     let log = &mut log_room[..cells];
     let mut t: u32 = 0;
     while t < tuples {
-        let reached = reaching::reach(geometry, design, lost, Tuple(t), flags, log);
+        let reached = passing::reach(geometry, design, lost, Tuple(t), flags, log);
         if !reached.complete {
             return t;
         }
@@ -73,7 +73,7 @@ fn rebuild_tuples(geometry: Geometry, design: &[u16], lost: &[bool], array: &mut
     let mut count: u32 = 0;
     let mut done: u32 = 0;
     while done < tuples {
-        let reached = reaching::reach(geometry, design, lost, Tuple(done), flags, log);
+        let reached = passing::reach(geometry, design, lost, Tuple(done), flags, log);
         replaying::replay(geometry, design, Tuple(done), log, reached.count, array);
         count += reached.count as u32;
         done += 1;
