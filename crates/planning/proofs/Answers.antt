@@ -15,8 +15,9 @@ use Rattle.geometry.specs.Geometry.{disksOf}
 use Rattle.design.specs.Design.{Laid}
 use Rattle.sizes.specs.Sizes.{sizesRules}
 use Rattle.sizes.proofs.Reasons.{accepted-is-laid}
-use Rattle.planning.specs.Plan.{planOf, triplesOf, planned, planRules}
-use Rattle.planning.proofs.Lengths.{plan-length}
+use Rattle.sources.specs.Plan.{planOf}
+use Rattle.planning.specs.Plan.{triplesOf, planned, planRules}
+use Rattle.planning.proofs.Bounds.{plan-length}
 
 module _ (G : Geometry) (d : List ℕ) (disk : ℕ) (old : List ℕ) where
   abbrev answered : Outcome ℕ

@@ -1,11 +1,5 @@
 pub mod Answers
-pub mod Example
-pub mod Lengths
-pub mod Lists
+pub mod Bounds
 pub mod Reasons
-pub mod Same
-pub mod Sources
-pub mod Stored
 pub mod Taken
-pub mod Theorems
 pub mod TwoResults

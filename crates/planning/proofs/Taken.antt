@@ -14,7 +14,7 @@ use Rattle.layout.specs.declared.Region.{Region}
 use Rattle.layout.specs.Regions.{region, regionOf}
 use Rattle.layout.specs.Ranges.{RegionIn, SmallRegion}
 use Rattle.layout.proofs.Regions.{group-lt, part-lt}
-use Rattle.planning.specs.Written.{inHand, Regions, RegionsOf}
+use Rattle.sources.specs.Written.{inHand, Regions, RegionsOf}
 
 -- the first e are those of tuple t
 pub record Taken (G : Geometry) (d : List ℕ) (t : ℕ) (groups₀ parts₀ groups parts : List ℕ) (e : ℕ) : Type 0 where

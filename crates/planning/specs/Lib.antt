@@ -1,5 +1,2 @@
 pub mod Plan
-pub mod Written
 pub mod Reasons
-pub mod Theorems
-pub mod Example

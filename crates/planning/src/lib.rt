@@ -1,7 +1,5 @@
 // The plan for one disk: which units are read to restore each of its units (01). The design is scanned once for each part of the
 // disk and once for each region of the part's tuple, never for a unit.
-mod triples; // triples.rt: the triples of one unit
-
 use cells::Cell;
 use geometry::Disk;
 use geometry::Geometry;
@@ -18,8 +16,9 @@ ghost use Rattle.refusal.specs.Refusal.{answer, kept};
 ghost use Rattle.geometry.specs.Geometry.{Sound, partsOf, tuplesOf, disksOf};
 ghost use Rattle.design.specs.Design.{Laid};
 ghost use Rattle.cells.specs.Ranges.{CellIn};
-ghost use Rattle.planning.specs.Plan.{listsOf, planOf, triplesOf, planned, planRules, plannedOutcome};
-ghost use Rattle.planning.specs.Written.{Written, Regions, RegionsOf, inHand, rowTriples, partPlan};
+ghost use Rattle.sources.specs.Plan.{listsOf, planOf};
+ghost use Rattle.planning.specs.Plan.{triplesOf, planned, planRules, plannedOutcome};
+ghost use Rattle.sources.specs.Written.{Written, Regions, RegionsOf, inHand, rowTriples, partPlan};
 
 // How many triples were written, or the refusal.
 pub enum Planned {
@@ -81,7 +80,7 @@ fn plan_rows(
             row: i,
             column: at.column,
         };
-        next = triples::plan_unit(geometry, groups, parts, Unit(first.0 + i), cell, list, next);
+        next = sources::plan_unit(geometry, groups, parts, Unit(first.0 + i), cell, list, next);
         i += 1;
     }
     next

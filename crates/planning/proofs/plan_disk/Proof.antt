@@ -4,9 +4,9 @@ use mathlib.Core.Path.{refl, ap, _∙_}
 use native.Mathlib.Omega.{arith}
 use lib.Seq.{sets}
 use Rattle.geometry.specs.Geometry.{partsOf}
-use Rattle.planning.specs.Written.{partPlan}
-use Rattle.planning.proofs.Same.{parts-are-the-plan}
-use Rattle.planning.proofs.Stored.{Storing, storing-none, storing-room, storing-more, storing-all, stored-long}
+use Rattle.sources.specs.Written.{partPlan}
+use Rattle.sources.proofs.Same.{parts-are-the-plan}
+use Rattle.sources.proofs.Stored.{Storing, storing-none, storing-room, storing-more, storing-all, stored-long}
 use borrow.Author.Needs.{needs}
 use Rattle.planning.proofs.plan_disk.Statement.{statement}
 use Rattle.planning.proofs.plan_disk.Tie as tie

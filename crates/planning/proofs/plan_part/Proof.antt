@@ -2,7 +2,7 @@
 use mathlib.Core.Path.{sym}
 use native.Mathlib.Omega.{arith}
 use Rattle.geometry.proofs.Laws.{units-bound}
-use Rattle.planning.proofs.Same.{first-unit, part-found}
+use Rattle.sources.proofs.Same.{first-unit, part-found}
 use Rattle.planning.proofs.Taken.{regions-small}
 use borrow.Author.Needs.{needs}
 use Rattle.planning.proofs.plan_part.Statement.{statement}

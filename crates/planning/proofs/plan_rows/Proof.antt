@@ -2,9 +2,9 @@
 use Prim.Native.Nat.{_-_}
 use mathlib.Core.Path.{refl}
 use native.Mathlib.Omega.{arith}
-use Rattle.planning.specs.Written.{inHand, rowTriples}
-use Rattle.planning.proofs.Sources.{cell-in-row}
-use Rattle.planning.proofs.Stored.{Storing, storing-none, storing-room, storing-more, storing-all, stored-long}
+use Rattle.sources.specs.Written.{inHand, rowTriples}
+use Rattle.sources.proofs.Sources.{cell-in-row}
+use Rattle.sources.proofs.Stored.{Storing, storing-none, storing-room, storing-more, storing-all, stored-long}
 use borrow.Author.Needs.{needs}
 use Rattle.planning.proofs.plan_rows.Statement.{statement}
 use Rattle.planning.proofs.plan_rows.Tie as tie

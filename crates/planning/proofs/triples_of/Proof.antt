@@ -2,7 +2,7 @@
 use mathlib.Core.Path.{refl}
 use native.Mathlib.Omega.{arith}
 use Rattle.planning.specs.Plan.{triplesOf}
-use Rattle.planning.proofs.Lengths.{part-triples-bound, triples-bound}
+use Rattle.planning.proofs.Bounds.{part-triples-bound, triples-bound}
 use borrow.Author.Needs.{needs}
 use Rattle.planning.proofs.triples_of.Statement.{statement}
 use Rattle.planning.proofs.triples_of.Tie as tie

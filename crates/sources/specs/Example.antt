@@ -3,7 +3,7 @@ use Prim.Native.Nat.{ℕ}
 use mathlib.Core.Path.{_≡_}
 use mathlib.Core.List.{List, [], _∷_}
 use Rattle.cells.specs.Figure.{shelf}
-use Rattle.planning.specs.Plan.{planOf}
+use Rattle.sources.specs.Plan.{planOf}
 
 -- "0,1,3", developed modulo 7 and sorted
 abbrev pub heldSeven : List ℕ

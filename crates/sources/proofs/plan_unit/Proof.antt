@@ -1,9 +1,9 @@
--- `planning::triples::plan_unit` meets its contract. Assumes nothing.
-use Rattle.planning.specs.Written.{inHand}
-use Rattle.planning.proofs.Sources.{unit-outer, unit-inner}
+-- `sources::plan_unit` meets its contract. Assumes nothing.
+use Rattle.sources.specs.Written.{inHand}
+use Rattle.sources.proofs.Sources.{unit-outer, unit-inner}
 use borrow.Author.Needs.{needs}
-use Rattle.planning.proofs.triples.plan_unit.Statement.{statement}
-use Rattle.planning.proofs.triples.plan_unit.Tie as tie
+use Rattle.sources.proofs.plan_unit.Statement.{statement}
+use Rattle.sources.proofs.plan_unit.Tie as tie
 
 sub-if1 : tie.Need-sub-if1
 sub-if1 c = search needs

@@ -1,10 +1,10 @@
--- `planning::triples::outer_source` meets its contract. Assumes nothing.
+-- `sources::outer_source` meets its contract. Assumes nothing.
 use mathlib.Core.Path.{ap, _∙_}
 use borrow.Author.Needs.{needs}
 use Rattle.layout.specs.Places.{inRegion}
-use Rattle.planning.specs.Written.{inHand}
-use Rattle.planning.proofs.triples.outer_source.Statement.{statement}
-use Rattle.planning.proofs.triples.outer_source.Tie as tie
+use Rattle.sources.specs.Written.{inHand}
+use Rattle.sources.proofs.outer_source.Statement.{statement}
+use Rattle.sources.proofs.outer_source.Tie as tie
 
 mul-t10 : tie.Need-mul-t10
 mul-t10 c = search needs

@@ -15,7 +15,7 @@ use Rattle.layout.specs.declared.Region.{Region}
 use Rattle.layout.specs.Regions.{region, regionOf}
 use Rattle.layout.specs.Places.{inRegion, cellAt}
 use Rattle.layout.specs.Ranges.{SmallRegion}
-use Rattle.planning.specs.Plan.{listsOf, unitPlan}
+use Rattle.sources.specs.Plan.{listsOf, unitPlan}
 
 -- new is stored over old from start on: the list is then last, and the next place is r
 pub record Written (old : List ℕ) (start : ℕ) (new last : List ℕ) (r : ℕ) : Type 0 where

@@ -3,15 +3,14 @@ use Prim.Native.Nat.{ℕ, suc, _+_, _-_, _*_, _≤_, _<_}
 use mathlib.Core.Path.{_≡_, refl, sym, ap, _∙_}
 use mathlib.Core.Bool.{cond}
 use mathlib.Core.List.{List, []}
-use native.Mathlib.Nat.{mul-le-mul, mul-left-comm, mul-assoc, suc-mul, mul-suc, le-refl}
+use native.Mathlib.Nat.{mul-left-comm, mul-assoc, suc-mul, mul-suc, le-refl}
 use native.Mathlib.Omega.{arith}
 use lib.Dec.{eqb}
 use lib.ListN.{length}
 use borrow.Author.Tests.{eq-eqb, ne-eqb, lt-ltb, le-ltb}
 use Rattle.counting.proofs.Sums.{sumBelow, sum-same, sum-const, sum-but-one}
 use Rattle.geometry.specs.declared.Geometry.{Geometry}
-use Rattle.geometry.specs.Geometry.{Sound, partsOf, disksOf}
-use Rattle.geometry.proofs.Laws.{parts-bound}
+use Rattle.geometry.specs.Geometry.{partsOf, disksOf}
 use Rattle.design.specs.Design.{Laid}
 use Rattle.cells.specs.declared.Cell.{Cell}
 use Rattle.cells.specs.Cells.{labelOf, diagonalOf}
@@ -19,17 +18,10 @@ use Rattle.cells.specs.Sets.{outerMember, innerMember}
 use Rattle.cells.specs.Ranges.{CellIn}
 use Rattle.layout.specs.Places.{cellAt}
 use Rattle.layout.proofs.Places.{cell-at-in}
-use Rattle.planning.specs.Plan.{listsOf, triple, unitPlan, planOf, triplesOf}
-use Rattle.planning.specs.Written.{partPlan}
-use Rattle.planning.proofs.Lists.{lists-length}
-use Rattle.planning.proofs.Same.{row-unit, cell-of-row, parts-are-the-plan}
-
-pub part-triples-bound : (G : Geometry) → Sound G → partsOf G * (G .g - 1) ≤ 1080
-part-triples-bound G s = let p : G .g - 1 ≤ 12 = omega arith in mul-le-mul (parts-bound G s) p
-
-pub triples-bound : (G : Geometry) → Sound G → triplesOf G ≤ 10800
-unfolding triplesOf
-triples-bound G s = mul-le-mul (part-triples-bound G s) (s .limits .k-high)
+use Rattle.sources.specs.Plan.{listsOf, triple, unitPlan, planOf}
+use Rattle.sources.specs.Written.{partPlan}
+use Rattle.sources.proofs.Lists.{lists-length}
+use Rattle.sources.proofs.Same.{row-unit, cell-of-row, parts-are-the-plan}
 
 -- n lists of three, but for the q-th
 pub but-one-length :
@@ -102,8 +94,7 @@ module _ (G : Geometry) (d : List ℕ) (L : Laid G d) (disk p : ℕ) (hd : disk 
       ∙ rows-sum (sumBelow rowLength (G .g)) (G .k - 1) (G .g - 1) (G .g) (G .k) eg ek
       (sum ∙ ap (λ (x : ℕ). x + G .g * (3 * (G .k - 1))) last-row)
 
-pub plan-length : (G : Geometry) (d : List ℕ) → Laid G d → (disk : ℕ) → disk < disksOf G → length (planOf G d disk) ≡ 3 * triplesOf G
-unfolding triplesOf
+pub plan-length : (G : Geometry) (d : List ℕ) → Laid G d → (disk : ℕ) → disk < disksOf G → length (planOf G d disk) ≡ 3 * (partsOf G * (G .g - 1) * G .k)
 plan-length G d L disk h =
     ap length (sym (parts-are-the-plan G d disk))
     ∙ lists-length (partPlan G d disk) (partsOf G)

@@ -14,8 +14,8 @@ use Rattle.cells.specs.Cells.{cell, labelColumn, diagonalColumn, labelOf, diago
 use Rattle.layout.specs.declared.Place.{Place}
 use Rattle.layout.specs.declared.Region.{Region}
 use Rattle.layout.specs.Places.{inRegion}
-use Rattle.planning.specs.Plan.{listsOf}
-use Rattle.planning.specs.Written.{Written, tripleOf, outerTriple, innerTriple, unitTriples}
+use Rattle.sources.specs.Plan.{listsOf}
+use Rattle.sources.specs.Written.{Written, tripleOf, outerTriple, innerTriple, unitTriples}
 
 module _ (e q y : ℕ) (p : Place) where
   -- none for the unit itself, three numbers for another

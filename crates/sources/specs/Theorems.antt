@@ -6,7 +6,7 @@ use lib.ListN.{length}
 use Rattle.geometry.specs.declared.Geometry.{Geometry}
 use Rattle.geometry.specs.Geometry.{partsOf, disksOf}
 use Rattle.design.specs.Design.{Laid}
-use Rattle.planning.specs.Plan.{planOf}
+use Rattle.sources.specs.Plan.{planOf}
 
 -- "There are r(g-1)k triples" [1 ≤ g, from Laid]
 abbrev pub The-plan-has-as-many-triples : Type 0

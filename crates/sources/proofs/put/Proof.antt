@@ -1,10 +1,10 @@
--- `planning::triples::put` meets its contract. Assumes nothing.
+-- `sources::put` meets its contract. Assumes nothing.
 use native.Mathlib.Omega.{arith}
 use lib.ListN.{length-set}
 use borrow.Author.Needs.{needs}
-use Rattle.planning.proofs.Sources.{put-own, put-room, put-other}
-use Rattle.planning.proofs.triples.put.Statement.{statement}
-use Rattle.planning.proofs.triples.put.Tie as tie
+use Rattle.sources.proofs.Sources.{put-own, put-room, put-other}
+use Rattle.sources.proofs.put.Statement.{statement}
+use Rattle.sources.proofs.put.Tie as tie
 
 returns : tie.Need-returns
 returns c = put-own _ _ _ _ _ _ (c .if1 .taken)

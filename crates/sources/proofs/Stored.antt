@@ -6,9 +6,9 @@ use native.Mathlib.Nat.{add-zero, add-suc, suc-add}
 use native.Mathlib.Omega.{arith}
 use lib.ListN.{length, set, length-append}
 use lib.Seq.{sets, length-sets}
-use Rattle.planning.specs.Plan.{listsOf}
-use Rattle.planning.specs.Written.{Written}
-use Rattle.planning.proofs.Lists.{lists-none, lists-more, lists-room}
+use Rattle.sources.specs.Plan.{listsOf}
+use Rattle.sources.specs.Written.{Written}
+use Rattle.sources.proofs.Lists.{lists-none, lists-more, lists-room}
 
 pub sets-append : (l : List ℕ) (i : ℕ) (xs ys : List ℕ) → sets l i (xs ++ ys) ≡ sets (sets l i xs) (i + length xs) ys
 sets-append l i [] ys = ap (λ (j : ℕ). sets l j ys) (sym (add-zero i))

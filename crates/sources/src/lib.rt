@@ -1,4 +1,5 @@
-// The triples of one unit, stored into the list from a place on. A tuple's regions are in hand, so nothing here reads the design.
+// The triples of one unit: it, and each unit that is read to restore it, stored into the list from a place on. A tuple's regions are
+// in hand, so nothing here reads the design.
 use cells::Cell;
 use geometry::Geometry;
 use geometry::Group;
@@ -14,11 +15,11 @@ ghost use Rattle.cells.specs.Cells.{labelColumn, diagonalColumn};
 ghost use Rattle.cells.specs.Ranges.{CellIn};
 ghost use Rattle.layout.specs.Places.{inRegion};
 ghost use Rattle.layout.specs.Ranges.{SmallRegion};
-ghost use Rattle.planning.specs.Plan.{listsOf};
-ghost use Rattle.planning.specs.Written.{Written, Regions, inHand, tripleOf, outerTriple, innerTriple, unitTriples};
+ghost use Rattle.sources.specs.Plan.{listsOf};
+ghost use Rattle.sources.specs.Written.{Written, Regions, inHand, tripleOf, outerTriple, innerTriple, unitTriples};
 
 // "the triple: unit restored, source disk, source unit", but not of the unit itself. Returns the next place.
-pub fn put(list: &mut [u32], at: usize, e: u32, own: u32, unit: Unit, source: Place) -> usize
+fn put(list: &mut [u32], at: usize, e: u32, own: u32, unit: Unit, source: Place) -> usize
     requires { ⌜ at + length (tripleOf e own (unit .0) source) ≤ length (now list) ⌝ }
     ensures { λ r. ⌜ Written (now (list .entry)) at (tripleOf e own (unit .0) source) (now (list .exit)) r ⌝ }
 {
@@ -32,7 +33,7 @@ pub fn put(list: &mut [u32], at: usize, e: u32, own: u32, unit: Unit, source: Pl
 }
 
 // The place of the member at a position of the outer set of label (row,column).
-pub fn outer_source(
+fn outer_source(
     geometry: Geometry,
     groups: &[u32],
     parts: &[u32],
@@ -54,7 +55,7 @@ pub fn outer_source(
 }
 
 // The place of the member in a row of a region's diagonal.
-pub fn inner_source(geometry: Geometry, region: Region, row: u32, diagonal: u32) -> Place
+fn inner_source(geometry: Geometry, region: Region, row: u32, diagonal: u32) -> Place
     requires { ⌜ Sound geometry × SmallRegion region ⌝ }
     requires { ⌜ (row < geometry .g) × (diagonal < geometry .g) ⌝ }
     ensures { λ r. ⌜ r ≡ inRegion geometry region row (diagonalColumn (geometry .g) diagonal row) ⌝ }
@@ -64,7 +65,7 @@ pub fn inner_source(geometry: Geometry, region: Region, row: u32, diagonal: u32)
 }
 
 // "by position of the member (outer)"
-pub fn plan_outer(
+fn plan_outer(
     geometry: Geometry,
     groups: &[u32],
     parts: &[u32],
@@ -89,7 +90,7 @@ pub fn plan_outer(
 }
 
 // "by row of the member (inner)"
-pub fn plan_inner(
+fn plan_inner(
     geometry: Geometry,
     region: Region,
     unit: Unit,
@@ -103,11 +104,11 @@ pub fn plan_inner(
 {
     let diagonal = cells::diagonal_at(geometry.g, at.row, at.column);
     let mut next = start;
-    let mut e: u32 = 0;
-    while e < geometry.g {
-        let source = inner_source(geometry, region, e, diagonal);
-        next = put(list, next, e, at.row, unit, source);
-        e += 1;
+    let mut i: u32 = 0;
+    while i < geometry.g {
+        let source = inner_source(geometry, region, i, diagonal);
+        next = put(list, next, i, at.row, unit, source);
+        i += 1;
     }
     next
 }

@@ -8,7 +8,7 @@ use native.Mathlib.Decide.{ℕ-discrete}
 use native.Mathlib.Omega.{arith}
 use lib.ListN.{length, length-append}
 use Rattle.counting.proofs.Sums.{sumBelow}
-use Rattle.planning.specs.Plan.{listsOf}
+use Rattle.sources.specs.Plan.{listsOf}
 
 pub lists-none : (f : ℕ → List ℕ) → listsOf f 0 ≡ []
 unfolding listsOf

@@ -1,19 +1,19 @@
--- `planning::triples::plan_inner` meets its contract. Assumes nothing.
+-- `sources::plan_inner` meets its contract. Assumes nothing.
 use Prim.Native.Nat.{_-_}
 use native.Mathlib.Omega.{arith}
 use borrow.Author.Needs.{needs}
-use Rattle.planning.specs.Written.{innerTriple}
-use Rattle.planning.proofs.Sources.{inner-is}
-use Rattle.planning.proofs.Stored.{Storing, storing-none, storing-room, storing-more, storing-all, stored-long}
-use Rattle.planning.proofs.triples.plan_inner.Statement.{statement}
-use Rattle.planning.proofs.triples.plan_inner.Tie as tie
+use Rattle.sources.specs.Written.{innerTriple}
+use Rattle.sources.proofs.Sources.{inner-is}
+use Rattle.sources.proofs.Stored.{Storing, storing-none, storing-room, storing-more, storing-all, stored-long}
+use Rattle.sources.proofs.plan_inner.Statement.{statement}
+use Rattle.sources.proofs.plan_inner.Tie as tie
 
 abbrev Inv-loop : tie.InvT-loop
-Inv-loop geometry region unit at list₀ start diagonal next₀ e₀ list next e =
-    Storing (innerTriple geometry region (unit .0) at) (geometry .g) list₀ start list next e
+Inv-loop geometry region unit at list₀ start diagonal next₀ i₀ list next i =
+    Storing (innerTriple geometry region (unit .0) at) (geometry .g) list₀ start list next i
 
 abbrev μ-loop : tie.MeasureT-loop
-μ-loop geometry region unit at list₀ start diagonal next₀ e₀ list next e = geometry .g - e
+μ-loop geometry region unit at list₀ start diagonal next₀ i₀ list next i = geometry .g - i
 
 diagonal-at-requires : tie.Need-diagonal-at-requires Inv-loop μ-loop
 diagonal-at-requires c κs = search needs
@@ -32,8 +32,8 @@ put-requires c κs =
     (c .before .before .before .before .before .diagonal-at .ensures .0) (c .before .inner-source .ensures))
     (c .before .before .if1 .taken)
 
-add-e : tie.Need-add-e Inv-loop μ-loop
-add-e c = search needs
+add-i : tie.Need-add-i Inv-loop μ-loop
+add-i c = search needs
 
 loop-less : tie.Need-loop-less Inv-loop μ-loop
 loop-less c = search needs
@@ -63,7 +63,7 @@ plan-inner-spec =
     loop-holds
     inner-source-requires
     put-requires
-    add-e
+    add-i
     loop-less
     loop-again
     same-length

@@ -1,10 +1,10 @@
--- `planning::triples::inner_source` meets its contract. Assumes nothing.
+-- `sources::inner_source` meets its contract. Assumes nothing.
 use Prim.Native.Nat.{ℕ}
 use mathlib.Core.Path.{ap, _∙_}
 use borrow.Author.Needs.{needs}
 use Rattle.layout.specs.Places.{inRegion}
-use Rattle.planning.proofs.triples.inner_source.Statement.{statement}
-use Rattle.planning.proofs.triples.inner_source.Tie as tie
+use Rattle.sources.proofs.inner_source.Statement.{statement}
+use Rattle.sources.proofs.inner_source.Tie as tie
 
 column-of-diagonal-requires : tie.Need-column-of-diagonal-requires
 column-of-diagonal-requires c κs = search needs

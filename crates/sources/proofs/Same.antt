@@ -17,10 +17,10 @@ use Rattle.layout.specs.declared.Region.{Region}
 use Rattle.layout.specs.Regions.{regionOf}
 use Rattle.layout.specs.Places.{inRegion, placeOf, cellAt}
 use Rattle.layout.proofs.Places.{cell-at-in}
-use Rattle.planning.specs.Plan.{listsOf, unitPlan, planBelow, planOf}
-use Rattle.planning.specs.Written.{inHand, RegionsOf, tripleOf, unitTriples, rowTriples, partPlan}
-use Rattle.planning.proofs.Lists.{lists-same, lists-times}
-use Rattle.planning.proofs.Sources.{cell-in-row}
+use Rattle.sources.specs.Plan.{listsOf, unitPlan, planBelow, planOf}
+use Rattle.sources.specs.Written.{inHand, RegionsOf, tripleOf, unitTriples, rowTriples, partPlan}
+use Rattle.sources.proofs.Lists.{lists-same, lists-times}
+use Rattle.sources.proofs.Sources.{cell-in-row}
 
 -- of one unit
 module _ (G : Geometry) (d : List ℕ) (ρ : ℕ → Region) (x : Cell) (h : CellIn G x)

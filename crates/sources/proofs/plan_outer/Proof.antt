@@ -1,12 +1,12 @@
--- `planning::triples::plan_outer` meets its contract. Assumes nothing.
+-- `sources::plan_outer` meets its contract. Assumes nothing.
 use Prim.Native.Nat.{_-_}
 use native.Mathlib.Omega.{arith}
 use borrow.Author.Needs.{needs}
-use Rattle.planning.specs.Written.{inHand, outerTriple}
-use Rattle.planning.proofs.Sources.{outer-is}
-use Rattle.planning.proofs.Stored.{Storing, storing-none, storing-room, storing-more, storing-all, stored-long}
-use Rattle.planning.proofs.triples.plan_outer.Statement.{statement}
-use Rattle.planning.proofs.triples.plan_outer.Tie as tie
+use Rattle.sources.specs.Written.{inHand, outerTriple}
+use Rattle.sources.proofs.Sources.{outer-is}
+use Rattle.sources.proofs.Stored.{Storing, storing-none, storing-room, storing-more, storing-all, stored-long}
+use Rattle.sources.proofs.plan_outer.Statement.{statement}
+use Rattle.sources.proofs.plan_outer.Tie as tie
 
 abbrev Inv-loop : tie.InvT-loop
 Inv-loop geometry groups parts unit at list₀ start column next₀ e₀ list next e =

@@ -1,0 +1,4 @@
+pub mod Plan
+pub mod Written
+pub mod Theorems
+pub mod Example
