@@ -14,8 +14,8 @@
  * C would cut it silently (-Wconversion finds that).
  *
  * Lists. Each list is a pointer and its length in elements. NULL with length 0 is the empty list: nothing of it is read or
- * written. Elsewhere the list must be readable, and writable where the parameter is not const, `design` aligned for uint16_t, and
- * the length its true length: no function can check that. No list is kept after the call returns.
+ * written. Elsewhere the list must be readable, and writable where the parameter is not const, `design` aligned for uint16_t,
+ * `list` for uint32_t, and the length its true length: no function can check that. No list is kept after the call returns.
  *
  * Array and marks. `array` holds all disks, disk 0 whole, then disk 1: `bytes` of himzolven_sizes, at most 1,073,741,824.
  * `marks` has one byte a disk, 0 present and 1 lost. Any alignment will do.
@@ -60,8 +60,9 @@ enum himzolven_refusal {
     HIMZOLVEN_DISK_TOO_HIGH = 9,  /* disk or unit number too high */
     HIMZOLVEN_USER_TOO_HIGH = 10, /* user unit number too high */
     HIMZOLVEN_BAD_RANGE = 11,     /* range leaves the unit: its offset plus its length is above u */
-    HIMZOLVEN_LOST = 12           /* read: data disk marked; write: any of its four disks marked; place: first marked disk of
+    HIMZOLVEN_LOST = 12,          /* read: data disk marked; write: any of its four disks marked; place: first marked disk of
                                    * data, outer parity, inner parity of data, inner parity of outer parity */
+    HIMZOLVEN_SHORT_LIST = 14     /* plan list shorter than 3*r*(g-1)*k */
 };
 
 /* The roles of a unit. */
@@ -121,6 +122,13 @@ typedef struct {
     uint32_t lowest;
 } himzolven_audit_answer;
 
+/* count: of the triples that a plan has written. */
+typedef struct {
+    uint32_t refusal;
+    uint32_t place;
+    uint32_t count;
+} himzolven_count_answer;
+
 /* Fills the list with the design of a held v. The length for each v, 7: 21, 13: 52, 21: 105, 31: 186, 57: 456, 73: 657,
  * 91: 910. Refusals 1, 3. */
 himzolven_answer himzolven_fill(uint32_t v, uint16_t *design, size_t design_length);
@@ -164,6 +172,18 @@ himzolven_answer himzolven_write(
 himzolven_audit_answer himzolven_audit(
     uint32_t v, uint32_t k, uint32_t g, uint32_t u, const uint16_t *design, size_t design_length, const uint8_t *array,
     size_t array_length);
+
+/* The plan for one disk: which units of other disks are read to restore each of its units. The list gets `count` = r*(g-1)*k
+ * triples of three numbers: unit restored, source disk, source unit. They go by the unit restored, upwards; then, for a unit of
+ * row g-1 (unit % g), which is the XOR of the rest of its inner set, by the row of the source, and for any other, which is the XOR
+ * of the rest of its outer set, by the position of the source's region in the tuple. The restored unit is not among its sources.
+ * The list has 3*r*(g-1)*k numbers or more; those past the triples stay as they were. That length for each held v and each g,
+ * 7: 54 (g = 3), 108 (5), 162 (7), 270 (11), 324 (13); 13: 192 (5), 288 (7), 480 (11), 576 (13); 21: 300 (5), 450 (7), 750 (11),
+ * 900 (13); 31: 648 (7), 1080 (11), 1296 (13); 57: 1920 (11), 2304 (13); 73: 2430 (11), 2916 (13); 91: 3000 (11), 3600 (13).
+ * The plan takes no array: u is tested, and the array's size is not. Refusals 2, 3, 4, 5, 6, 9, 14. */
+himzolven_count_answer himzolven_plan(
+    uint32_t v, uint32_t k, uint32_t g, uint32_t u, const uint16_t *design, size_t design_length, uint32_t disk, uint32_t *list,
+    size_t list_length);
 
 #ifdef __cplusplus
 }

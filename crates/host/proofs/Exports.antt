@@ -34,14 +34,18 @@ use Rattle.finding.specs.Bad.{auditOf}
 use Rattle.auditing.specs.Auditing.{auditRules}
 use Rattle.auditing.specs.Reasons.{auditRows}
 use Rattle.auditing.proofs.Reasons.{audit-exact}
+use Rattle.planning.specs.Plan.{triplesOf, planRules}
+use Rattle.planning.specs.Reasons.{planRows}
+use Rattle.planning.proofs.Reasons.{plan-exact}
 use Rattle.host.specs.declared.Answer.{Answer}
 use Rattle.host.specs.declared.SizesAnswer.{SizesAnswer}
 use Rattle.host.specs.declared.MapAnswer.{MapAnswer}
 use Rattle.host.specs.declared.RoleAnswer.{RoleAnswer}
 use Rattle.host.specs.declared.AuditAnswer.{AuditAnswer}
+use Rattle.host.specs.declared.CountAnswer.{CountAnswer}
 use Rattle.host.specs.Flat.{geometry}
 use Rattle.host.specs.Told.{Told}
-use Rattle.host.proofs.Told.{front-tells, front-answer, front-sizes, front-map, front-role, front-audit}
+use Rattle.host.proofs.Told.{front-tells, front-answer, front-sizes, front-map, front-role, front-audit, front-count}
 use Rattle.host.proofs.himzolven_fill.Reads as fill
 use Rattle.host.proofs.himzolven_check.Reads as check
 use Rattle.host.proofs.himzolven_sizes.Reads as sizes
@@ -51,6 +55,7 @@ use Rattle.host.proofs.himzolven_format.Reads as format
 use Rattle.host.proofs.himzolven_read.Reads as read
 use Rattle.host.proofs.himzolven_write.Reads as write
 use Rattle.host.proofs.himzolven_audit.Reads as audit
+use Rattle.host.proofs.himzolven_plan.Reads as plan
 
 -- what each contract allows
 abbrev pub FillAllowed : Lfts 1 → ℕ → RefT (List ℕ) → Answer → RefT (List ℕ) → Type 0
@@ -93,6 +98,11 @@ WriteAllowed κs v k g u design array marks n offset bytes r last =
 abbrev pub AuditAllowed : Lfts 2 → (v k g u : ℕ) → (design array : RefT (List ℕ)) → AuditAnswer → Type 0
 AuditAllowed κs v k g u design array r =
     audit.Post κs (v, (k, (g, (u, (design, (array, tt)))))) r (v, (k, (g, (u, (design, (array, tt))))))
+
+abbrev pub PlanAllowed :
+    Lfts 2 → (v k g u : ℕ) → RefT (List ℕ) → (disk : ℕ) → RefT (List ℕ) → CountAnswer → RefT (List ℕ) → Type 0
+PlanAllowed κs v k g u design disk list r last =
+    plan.Post κs (v, (k, (g, (u, (design, (disk, (list, tt))))))) r (v, (k, (g, (u, (design, (disk, (last, tt)))))))
 
 -- what C is told
 
@@ -171,6 +181,17 @@ audit-told κs v k g u design array r p =
     (lit< tt, (lit< tt, (lit< tt, (lit< tt, (lit< tt, (lit< tt, tt)))))) (audit-exact (geometry v k g u) (now design) (length (now array)) found)
     (front-audit answered r p)
 
+pub plan-told :
+    (κs : Lfts 2) (v k g u : ℕ) (design : RefT (List ℕ)) (disk : ℕ) (list last : RefT (List ℕ)) (r : CountAnswer) →
+    PlanAllowed κs v k g u design disk list r last →
+    Told (planRows (geometry v k g u) (now design) disk (length (now list))) (r .refusal) (r .place)
+plan-told κs v k g u design disk list last r p =
+    let count = triplesOf (geometry v k g u) in
+    let answered = answer (planRules (geometry v k g u) (now design) disk (length (now list))) count in
+    front-tells (planRows (geometry v k g u) (now design) disk (length (now list))) answered (r .refusal) (r .place)
+    (lit< tt, (lit< tt, (lit< tt, (lit< tt, (lit< tt, (lit< tt, (lit< tt, tt))))))) (plan-exact (geometry v k g u) (now design) disk (length (now list)) count)
+    (front-count answered r (p .0))
+
 -- two answers are one
 
 pub fill-two-results :
@@ -220,3 +241,8 @@ pub audit-two-results :
     (κs : Lfts 2) (v k g u : ℕ) (design array : RefT (List ℕ)) (r s : AuditAnswer) →
     AuditAllowed κs v k g u design array r → AuditAllowed κs v k g u design array s → r ≡ s
 audit-two-results κs v k g u design array r s p q = p ∙ sym q
+
+pub plan-two-results :
+    (κs : Lfts 2) (v k g u : ℕ) (design : RefT (List ℕ)) (disk : ℕ) (list x y : RefT (List ℕ)) (r s : CountAnswer) →
+    PlanAllowed κs v k g u design disk list r x → PlanAllowed κs v k g u design disk list s y → (r ≡ s) × (now x ≡ now y)
+plan-two-results κs v k g u design disk list x y r s p q = (p .0 ∙ sym (q .0), p .1 ∙ sym (q .1))

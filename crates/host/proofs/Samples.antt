@@ -4,7 +4,7 @@ use Rattle.refusal.specs.Refusal.{accepted, refused}
 use Rattle.layout.specs.Places.{place}
 use Rattle.cells.specs.Roles.{user, outer, inner}
 use Rattle.host.specs.declared.MapAnswer.{MapAnswer}
-use Rattle.host.specs.Flat.{geometry, flatSizes, flatMap, flatRole, flatAudit}
+use Rattle.host.specs.Flat.{geometry, flatSizes, flatMap, flatRole, flatAudit, flatCount}
 
 -- 01's example 2, user 4: "1/1, 18/1, 2/2, 19/2"
 sample-map :
@@ -55,6 +55,10 @@ sample-sizes = refl
 sample-audit :
     flatAudit (accepted (record { bad = 13; lowest = 95 })) ≡ record { refusal = 0; place = 0; bad = 13; lowest = 95 }
 sample-audit = refl
+
+-- 18 triples for one disk of design F
+sample-count : flatCount (accepted 18) ≡ record { refusal = 0; place = 0; count = 18 }
+sample-count = refl
 
 -- v, k, g and u, in C's order
 sample-geometry : geometry 91 10 11 512 ≡ record { v = 91; k = 10; g = 11; u = 512 }

@@ -16,7 +16,8 @@ use Rattle.host.specs.declared.SizesAnswer.{SizesAnswer}
 use Rattle.host.specs.declared.MapAnswer.{MapAnswer}
 use Rattle.host.specs.declared.RoleAnswer.{RoleAnswer}
 use Rattle.host.specs.declared.AuditAnswer.{AuditAnswer}
-use Rattle.host.specs.Flat.{flatAnswer, flatSizes, flatMap, flatRole, flatRoleOf, flatAudit}
+use Rattle.host.specs.declared.CountAnswer.{CountAnswer}
+use Rattle.host.specs.Flat.{flatAnswer, flatSizes, flatMap, flatRole, flatRoleOf, flatAudit, flatCount}
 use Rattle.host.specs.Told.{Told, Numbered}
 
 -- the number and the place at the front of a flat answer
@@ -93,3 +94,7 @@ front-role (accepted ρ) r e =
 pub front-audit : (o : Outcome Found) (r : AuditAnswer) → r ≡ flatAudit o → Front o (r .refusal) (r .place)
 front-audit (refused n p) r e = record { number = ap (λ (x : AuditAnswer). x .refusal) e; at = ap (λ (x : AuditAnswer). x .place) e }
 front-audit (accepted a) r e = record { number = ap (λ (x : AuditAnswer). x .refusal) e; at = ap (λ (x : AuditAnswer). x .place) e }
+
+pub front-count : (o : Outcome ℕ) (r : CountAnswer) → r ≡ flatCount o → Front o (r .refusal) (r .place)
+front-count (refused n p) r e = record { number = ap (λ (x : CountAnswer). x .refusal) e; at = ap (λ (x : CountAnswer). x .place) e }
+front-count (accepted a) r e = record { number = ap (λ (x : CountAnswer). x .refusal) e; at = ap (λ (x : CountAnswer). x .place) e }

@@ -13,6 +13,7 @@ use Rattle.host.specs.declared.SizesAnswer.{SizesAnswer}
 use Rattle.host.specs.declared.MapAnswer.{MapAnswer}
 use Rattle.host.specs.declared.RoleAnswer.{RoleAnswer}
 use Rattle.host.specs.declared.AuditAnswer.{AuditAnswer}
+use Rattle.host.specs.declared.CountAnswer.{CountAnswer}
 
 -- the geometry of four numbers from C
 abbrev pub geometry : (v k g u : ℕ) → Geometry
@@ -91,3 +92,8 @@ flatRole (refused n p) = record { refusal = n; place = p; kind = 0; a = 0; b = 0
 abbrev pub flatAudit : Outcome Found → AuditAnswer
 flatAudit (accepted x) = record { refusal = 0; place = 0; bad = x .bad; lowest = x .lowest }
 flatAudit (refused n p) = record { refusal = n; place = p; bad = 0; lowest = 0 }
+
+-- how many there are: triples of a plan
+abbrev pub flatCount : Outcome ℕ → CountAnswer
+flatCount (accepted n) = record { refusal = 0; place = 0; count = n }
+flatCount (refused n p) = record { refusal = n; place = p; count = 0 }

@@ -16,7 +16,8 @@ ghost use Rattle.fourfold.specs.Writing.{writeOf};
 ghost use Rattle.writing.specs.Writing.{writeRules};
 ghost use Rattle.finding.specs.Bad.{auditOf};
 ghost use Rattle.auditing.specs.Auditing.{auditRules, auditedOutcome};
-ghost use Rattle.host.specs.Flat.{geometry, flatAnswer, flatSizes, flatMap, flatRole, flatRoleOf, flatAudit};
+ghost use Rattle.planning.specs.Plan.{triplesOf, planned, planRules, plannedOutcome};
+ghost use Rattle.host.specs.Flat.{geometry, flatAnswer, flatSizes, flatMap, flatRole, flatRoleOf, flatAudit, flatCount};
 use address::Located;
 use address::Mapped;
 use auditing::Audited;
@@ -25,6 +26,7 @@ use geometry::Disk;
 use geometry::Geometry;
 use geometry::Unit;
 use geometry::UserUnit;
+use planning::Planned;
 use refusal::Checked;
 use sizes::Sized;
 
@@ -77,6 +79,13 @@ pub struct AuditAnswer {
     pub place: u32,
     pub bad: u32,
     pub lowest: u32,
+}
+
+#[repr(C)]
+pub struct CountAnswer {
+    pub refusal: u32,
+    pub place: u32,
+    pub count: u32,
 }
 
 fn answer_of(x: Checked) -> Answer
@@ -399,4 +408,46 @@ pub extern "C" fn himzolven_audit(
         (auditOf (geometry v k g u) (now (design .entry)) (now (array .entry)))) ⌝ }
 {
     audit_of(auditing::audit(Geometry { v, k, g, u }, design, array))
+}
+
+fn planned_of(x: Planned) -> CountAnswer
+    ensures { λ r. ⌜ r ≡ flatCount (plannedOutcome x) ⌝ }
+{
+    match x {
+        Planned::Triples(n) => CountAnswer {
+            refusal: 0,
+            place: 0,
+            count: n,
+        },
+        Planned::Refused(why) => CountAnswer {
+            refusal: why.number,
+            place: why.place,
+            count: 0,
+        },
+    }
+}
+
+// Lists the units that are read to restore one disk, and counts the triples: refusals 2 to 6, 9 and 14.
+#[no_mangle]
+pub extern "C" fn himzolven_plan(
+    v: u32,
+    k: u32,
+    g: u32,
+    u: u32,
+    design: &[u16],
+    disk: u32,
+    list: &mut [u32],
+) -> CountAnswer
+    ensures { λ r. ⌜ (r
+        ≡ flatCount
+        (answer (planRules (geometry v k g u) (now (design .entry)) disk (length (now (list .entry))))
+        (triplesOf (geometry v k g u))))
+        × (now (list .exit)
+        ≡ kept
+        (answer (planRules (geometry v k g u) (now (design .entry)) disk (length (now (list .entry))))
+        (triplesOf (geometry v k g u)))
+        (planned (geometry v k g u) (now (design .entry)) disk (now (list .entry)))
+        (now (list .entry))) ⌝ }
+{
+    planned_of(planning::plan(Geometry { v, k, g, u }, design, Disk(disk), list))
 }
