@@ -16,6 +16,9 @@ mod held;
 mod homes;
 mod layout;
 mod lent;
+mod plan;
+mod printer;
+mod rebuild;
 mod region;
 mod sets;
 #[cfg(test)]
@@ -24,13 +27,14 @@ mod tests;
 pub use answer::{Audit, Geometry, Map, Place, Refusal, Role, Sizes};
 use design::Counts;
 pub use fault::{Fault, Plant};
+use homes::Homes;
 use layout::Layout;
-use sets::Sets;
+use sets::{InTuple, Sets};
 
 /// "Each takes the design anew and checks it anew": each call below repeats all tests. The layout of the geometry that
 /// was accepted last is kept, since filling its tables takes long, and is used again only for that same geometry.
 ///
-/// The calls on the array are in `array`, what they ask of the lent bytes in `lent`.
+/// The calls on the array are in `array` and `rebuild`, what they ask of the lent bytes in `lent`; the plan is in `plan`.
 pub struct Model {
     plant: Plant,
     last: Option<Last>,
@@ -96,5 +100,12 @@ impl Model {
             self.last = Some(Last { key: (v, k, g, design.to_vec()), counts, layout, sets: None });
         }
         Ok(&self.last.as_ref().expect("a layout was just accepted").layout)
+    }
+
+    /// Where the tuples of the geometry that was accepted last lie, and the sets of one tuple.
+    fn homes_of_last(&self) -> (Homes<'_>, Vec<InTuple>) {
+        let Last { key: (v, k, g, design), counts, .. } = self.last.as_ref().expect("a geometry was accepted");
+        let homes = Homes::found(*v, *k, *g, *counts, design, self.plant);
+        (homes, sets::of_one_tuple(*k, *g, self.plant))
     }
 }

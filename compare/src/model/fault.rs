@@ -136,4 +136,59 @@ ARRAY {
     AuditInnerFirst: "audit numbers a tuple's inner sets before its outer sets",
     AuditFirstByte: "audit looks at the first byte of each unit alone",
 }
+
+/// Faults of the plan.
+PLAN {
+    PlanDiskBound: "the plan accepts disk number v·g",
+    FourteenBeforeNine: "refusal 14 is tested before 9",
+    FourteenOneLess: "a plan list one number too short is accepted",
+    FourteenTriples: "a plan list needs one number a triple",
+    FourteenLonger: "a plan list longer than 3·r(g-1)k is refused",
+    PlanStoresOnRefusal: "the plan clears its list before it refuses by 14",
+    PlanClearsRest: "the plan clears the rest of its list",
+    PlanOneMore: "a plan with a triple too many",
+    PlanOneLess: "a plan with a triple too few",
+    PlanItself: "the plan reads the unit that it restores",
+    PlanTurned: "the members of a set come by position or row downwards",
+    PlanBySource: "the triples come by their source",
+    PlanUnitBeforeDisk: "a triple names the source unit before the source disk",
+    PlanInnerFirst: "the plan restores every unit from its inner set",
+    PlanCountsNumbers: "the plan's answer counts numbers, not triples",
+}
+
+/// Faults of rebuild.
+REBUILD {
+    RebuildInnerFirst: "a pass tries the inner set before the outer set",
+    RebuildInnerAlone: "a pass tries the inner set alone",
+    RebuildBlindPass: "a pass does not see what it restored",
+    RebuildOnePass: "there is one pass",
+    RebuildDownwards: "a pass visits the units downwards",
+    RebuildColumnFirst: "a pass visits column, then row",
+    RebuildFirstDisk: "the first lost disk is restored and of the others the marks are cleared alone",
+    RebuildLastDisk: "the last lost disk is not restored",
+    RebuildMarks: "rebuild leaves the marks",
+    RebuildCountMore: "rebuild counts one unit more than it restored",
+    RebuildCountNone: "rebuild counts no unit",
+    RebuildStoresOnRefusal: "rebuild stores what it restored and then refuses by 13",
+    RebuildClearsOnRefusal: "rebuild clears the marks and then refuses by 13",
+    ThirteenHighest: "the place of refusal 13 is the highest incomplete tuple",
+    ThirteenFromOne: "the place of refusal 13 counts tuples from 1",
+    ThirteenByCount: "more than three lost disks are refused",
+}
+
+/// Faults of the plan printer.
+PRINTER {
+    PrinterTrims: "the printer reads a line with blanks around it",
+    PrinterDoubledSpaces: "the printer reads doubled spaces",
+    PrinterTabs: "the printer reads tabs",
+    PrinterSigns: "the printer reads a sign",
+    PrinterLeadingZero: "the printer does not read leading zeros",
+    PrinterTenDigits: "the printer reads ten digits, modulo 2 to the 32",
+    PrinterEightDigits: "the printer reads at most eight digits",
+    PrinterCarriageReturn: "the printer reads CR LF",
+    PrinterFirstLine: "the printer reads the first of several lines",
+    PrinterFourthWord: "the printer reads a line with a fourth word",
+    PrinterNeedsLineEnd: "the printer does not read a line without its end",
+    PrinterSixFirst: "the printer tests 6 before 1",
+}
 }

@@ -4,7 +4,7 @@ use super::answer::Refusal;
 use super::fault::{Fault, Plant};
 
 /// A line of document 000's table 1: b, v, r, k, lambda, and the perfect difference set.
-type Line = (u32, u32, u32, u32, u32, &'static [u32]);
+pub(super) type Line = (u32, u32, u32, u32, u32, &'static [u32]);
 
 /// Document 000's table 1. "The source prints 51 for the fifth; that fails v-1 = r(k-1), and 57 is right."
 const TABLE_1: [Line; 7] = [
@@ -20,11 +20,16 @@ const TABLE_1: [Line; 7] = [
 /// The fifth line as the source prints it, for the fault that keeps it.
 const FIFTH_AS_PRINTED: Line = (51, 51, 8, 8, 1, &[0, 1, 3, 13, 32, 36, 43, 52]);
 
-/// Refusal 1, "no set held for v", then 3, "list length not b·k", then the rows one after another.
-pub(super) fn fill(v: u32, list: &mut [u16], plant: Plant) -> Result<(), Refusal> {
+/// The line of a held v, or refusal 1, "no set held for v".
+pub(super) fn line(v: u32, plant: Plant) -> Result<Line, Refusal> {
     let mut table = TABLE_1;
     table[4] = plant.or(table[4], Fault::FiftyOne, FIFTH_AS_PRINTED);
-    let (b, _, _, k, _, set) = *table.iter().find(|line| line.1 == v).ok_or(Refusal::placeless(1))?;
+    table.into_iter().find(|line| line.1 == v).ok_or(Refusal::placeless(1))
+}
+
+/// Refusal 1, then 3, "list length not b·k", then the rows one after another.
+pub(super) fn fill(v: u32, list: &mut [u16], plant: Plant) -> Result<(), Refusal> {
+    let (b, _, _, k, _, set) = line(v, plant)?;
     let design: Vec<u16> = (0..b).flat_map(|i| developed(set, i, v, plant)).collect();
     debug_assert_eq!(design.len(), (b * k) as usize);
     let fits = list.len() == design.len() || plant.has(Fault::FillLongerList) && list.len() > design.len();

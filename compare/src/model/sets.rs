@@ -17,8 +17,7 @@ impl Sets {
     /// through the tuples, and in each first through the labels, row by row, then through positions and diagonals.
     pub fn walked((v, k, g, design): &Key, counts: Counts, plant: Plant) -> Sets {
         let homes = Homes::found(*v, *k, *g, counts, design, plant);
-        let regions: Vec<Region> = (0..*k as usize).map(|l| Region::at_position(l, *g as usize, plant)).collect();
-        let sets = of_one_tuple(&regions, plant);
+        let sets = of_one_tuple(*k, *g, plant);
         let mut all = Vec::new();
         for t in 0..homes.rows.len() {
             all.extend(sets.iter().map(|set| set.iter().map(|(l, cell)| homes.place(t, *l, *cell)).collect()));
@@ -50,14 +49,18 @@ impl Sets {
     }
 }
 
-/// The sets of one tuple, as cells with their positions: "The k units with one label form an outer set"; "diagonal j of
-/// a region has the units of row i, column (i - j) mod g, for all i from 0 to g-1".
-fn of_one_tuple(regions: &[Region], plant: Plant) -> Vec<Vec<(usize, Cell)>> {
+/// A set of one tuple: its cells with their positions.
+pub(super) type InTuple = Vec<(usize, Cell)>;
+
+/// The sets of one tuple: "The k units with one label form an outer set"; "diagonal j of a region has the units of row
+/// i, column (i - j) mod g, for all i from 0 to g-1".
+pub(super) fn of_one_tuple(k: u32, g: u32, plant: Plant) -> Vec<InTuple> {
+    let regions: Vec<Region> = (0..k as usize).map(|l| Region::at_position(l, g as usize, plant)).collect();
     let numbered = || regions.iter().enumerate();
     let labelled = |label| numbered().map(|(l, region)| (l, region.find(label))).collect();
-    let mut outer: Vec<Vec<(usize, Cell)>> = regions[0].labels.concat().into_iter().map(labelled).collect();
+    let mut outer: Vec<InTuple> = regions[0].labels.concat().into_iter().map(labelled).collect();
     let diagonal = |l, cells: &[Cell]| cells.iter().map(|cell| (l, *cell)).collect();
-    let mut inner: Vec<Vec<(usize, Cell)>> =
+    let mut inner: Vec<InTuple> =
         numbered().flat_map(|(l, region)| region.diagonals.iter().map(move |(cells, _)| diagonal(l, cells))).collect();
     if plant.has(Fault::AuditInnerFirst) {
         std::mem::swap(&mut outer, &mut inner);

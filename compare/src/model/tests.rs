@@ -1,6 +1,8 @@
 //! Document 01's examples that concern the mapping, and design F's parts.
 
 mod array;
+mod plan;
+mod rebuild;
 
 use super::{Geometry, Map, Model, Place, Plant, Refusal, Role};
 
