@@ -1,8 +1,8 @@
 //! One call with its arguments, asked of the proved library and of the independent program.
 
 use crate::given::Given;
-use crate::lent::Lent;
-use crate::library::{self, Answer, Flat, MapAnswer, RoleAnswer, SizesAnswer};
+use crate::lent::{Lent, Word};
+use crate::library::{self, Answer, CountAnswer, Flat, MapAnswer, RoleAnswer, SizesAnswer};
 use compare::model::Model;
 use std::fmt;
 
@@ -14,13 +14,14 @@ pub enum Kind {
     Sizes,
     Map,
     Role,
+    Plan,
 }
 
 impl Kind {
-    pub const ALL: [Kind; 5] = [Kind::Fill, Kind::Check, Kind::Sizes, Kind::Map, Kind::Role];
+    pub const ALL: [Kind; 6] = [Kind::Fill, Kind::Check, Kind::Sizes, Kind::Map, Kind::Role, Kind::Plan];
 
     pub fn name(self) -> &'static str {
-        ["fill", "check", "sizes", "map", "role"][self as usize]
+        ["fill", "check", "sizes", "map", "role", "plan"][self as usize]
     }
 
     /// The refusal numbers of document 01 that apply to the call.
@@ -31,6 +32,7 @@ impl Kind {
             Kind::Sizes => &[2, 3, 4, 5, 6],
             Kind::Map => &[2, 3, 4, 5, 6, 10],
             Kind::Role => &[2, 3, 4, 5, 6, 9],
+            Kind::Plan => &[2, 3, 4, 5, 6, 9, 14],
         }
     }
 }
@@ -43,9 +45,11 @@ pub struct Call {
     pub user_unit: u32,
     pub disk: u32,
     pub unit: u32,
+    /// The length of the list that the plan is lent.
+    pub room: usize,
 }
 
-/// What came back; of fill also the list.
+/// What came back; of fill and plan also the list.
 #[derive(Clone, Debug, PartialEq)]
 pub enum Reply {
     Fill(Answer, Vec<u16>),
@@ -53,6 +57,7 @@ pub enum Reply {
     Sizes(SizesAnswer),
     Map(MapAnswer),
     Role(RoleAnswer),
+    Plan(CountAnswer, Vec<u32>),
 }
 
 impl Reply {
@@ -62,15 +67,21 @@ impl Reply {
             Reply::Sizes(answer) => answer.refusal,
             Reply::Map(answer) => answer.refusal,
             Reply::Role(answer) => answer.refusal,
+            Reply::Plan(answer, _) => answer.refusal,
         }
     }
 }
 
 impl Call {
+    /// What the plan's list holds before the call.
+    fn stale(&self) -> Vec<u32> {
+        (0..self.room).map(|at| !u32::guard(at)).collect()
+    }
+
     /// Asks the proved library. The error says which lent word changed that had to stay.
     pub fn ask_library(&self) -> Result<Reply, String> {
         let Given { v, k, ref list, .. } = self.given;
-        let mut lent = Lent::of(list, 0);
+        let (mut lent, mut plan) = (Lent::of(list, 0), Lent::of(&self.stale(), 0));
         let part = lent.lend(list.len());
         let reply = match self.kind {
             Kind::Fill => {
@@ -81,6 +92,11 @@ impl Call {
             Kind::Sizes => Reply::Sizes(library::sizes(&self.given.geometry(part))),
             Kind::Map => Reply::Map(library::map(&self.given.geometry(part), self.user_unit)),
             Kind::Role => Reply::Role(library::role(&self.given.geometry(part), self.disk, self.unit)),
+            Kind::Plan => {
+                let answer = library::plan(&self.given.geometry(part), self.disk, plan.lend(self.room));
+                plan.difference(&Lent::of(plan.list(), 0)).map_err(|fault| format!("the plan's list {fault}"))?;
+                Reply::Plan(answer, plan.list().to_vec())
+            }
         };
         let after = if let Reply::Fill(_, filled) = &reply { filled } else { list };
         lent.difference(&Lent::of(after, 0)).map_err(|fault| format!("the lent list {fault}"))?;
@@ -107,6 +123,11 @@ impl Call {
             Kind::Sizes => Reply::Sizes(SizesAnswer::flat(model.sizes(&geometry))),
             Kind::Map => Reply::Map(MapAnswer::flat(model.map(&geometry, self.user_unit))),
             Kind::Role => Reply::Role(RoleAnswer::flat(model.role(&geometry, self.disk, self.unit))),
+            Kind::Plan => {
+                let mut list = self.stale();
+                let answer = CountAnswer::flat(model.plan(&geometry, self.disk, &mut list));
+                Reply::Plan(answer, list)
+            }
         }
     }
 }
@@ -119,12 +140,13 @@ impl fmt::Display for Call {
         if self.kind != Kind::Fill {
             write!(f, " k={k}")?;
         }
-        if matches!(self.kind, Kind::Sizes | Kind::Map | Kind::Role) {
+        if matches!(self.kind, Kind::Sizes | Kind::Map | Kind::Role | Kind::Plan) {
             write!(f, " g={g} u={u}")?;
         }
         match self.kind {
             Kind::Map => write!(f, " user_unit={}", self.user_unit)?,
             Kind::Role => write!(f, " disk={} unit={}", self.disk, self.unit)?,
+            Kind::Plan => write!(f, " disk={} room={}", self.disk, self.room)?,
             _ => {}
         }
         f.write_str(" ")?;

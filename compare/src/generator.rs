@@ -24,6 +24,8 @@ struct Burst {
     disks: u32,
     units: u32,
     user_units: u32,
+    /// The numbers of a plan.
+    plan: usize,
     left: usize,
 }
 
@@ -31,8 +33,9 @@ impl Burst {
     fn new(design: Design, g: u32, left: usize) -> Burst {
         let (v, k) = (design.v, design.k);
         let tuples = design.numbers.len() as u32 / k;
-        let user_units = tuples * (k - 1) * (g - 1) * g;
-        Burst { design, g, disks: v * g, units: (v - 1) / (k - 1) * g, user_units, left }
+        let (parts, user_units) = ((v - 1) / (k - 1), tuples * (k - 1) * (g - 1) * g);
+        let plan = (3 * parts * (g - 1) * k) as usize;
+        Burst { design, g, disks: v * g, units: parts * g, user_units, plan, left }
     }
 }
 
@@ -90,17 +93,18 @@ impl<'a> Generator<'a> {
         let stale = self.random.next();
         let list = (0..length as u64).map(|at| (stale.wrapping_mul(2 * at + 1) >> 40) as u16).collect();
         let given = Given { v, list, ..Given::default() };
-        Call { kind: Kind::Fill, given, user_unit: 0, disk: 0, unit: 0 }
+        Call { kind: Kind::Fill, given, user_unit: 0, disk: 0, unit: 0, room: 0 }
     }
 
     /// A valid call about the burst's array.
     fn valid(&mut self, kind: Kind) -> Call {
-        let Burst { ref design, g, disks, units, user_units, .. } = self.burst;
+        let Burst { ref design, g, disks, units, user_units, plan, .. } = self.burst;
         let (v, k, list) = (design.v, design.k, design.numbers.clone());
         let any = 1 + self.random.below(4096) as u32;
         let u = self.random.pick(&[1, 1, 2, 512, 4095, 4096, 4096, any]);
         let (disk, unit, user_unit) = (self.within(disks), self.within(units), self.within(user_units));
-        Call { kind, given: Given { v, k, g, u, list }, user_unit, disk, unit }
+        let room = plan + self.random.pick(&[0, 0, 0, 1, 2, 3, 64, plan]);
+        Call { kind, given: Given { v, k, g, u, list }, user_unit, disk, unit, room }
     }
 
     /// A call spoiled for one refusal, sometimes for two: then the one tested first must win.
@@ -109,9 +113,11 @@ impl<'a> Generator<'a> {
         let aims = 1 + usize::from(self.random.one_in(4));
         for _ in 0..aims {
             let number = self.random.pick(kind.refusals());
-            if matches!(number, 9 | 10) {
-                (call.disk, call.unit) = (self.burst.disks, self.burst.units);
-                call.user_unit = self.burst.user_units;
+            match number {
+                9 => (call.disk, call.unit) = (self.burst.disks, self.burst.units),
+                10 => call.user_unit = self.burst.user_units,
+                14 => call.room = self.burst.plan,
+                _ => {}
             }
             spoil(&mut call, number, &mut self.random);
         }
@@ -123,6 +129,7 @@ impl<'a> Generator<'a> {
         let mut call = self.valid(kind);
         wild_numbers(&mut call.given, &mut self.random);
         (call.disk, call.unit, call.user_unit) = (self.random.wild(), self.random.wild(), self.random.wild());
+        call.room = self.random.below(2 * call.room);
         call
     }
 }
@@ -138,12 +145,13 @@ impl Iterator for Generator<'_> {
             self.burst = self.next_burst();
         }
         self.burst.left -= 1;
-        let kind = match self.random.below(20) {
+        let kind = match self.random.below(24) {
             0 | 1 => return Some(self.fill()),
             2..=4 => Kind::Check,
             5..=8 => Kind::Sizes,
             9..=13 => Kind::Map,
-            _ => Kind::Role,
+            14..=19 => Kind::Role,
+            _ => Kind::Plan,
         };
         Some(match self.random.below(50) {
             0..=27 => self.valid(kind),
@@ -155,19 +163,22 @@ impl Iterator for Generator<'_> {
 
 /// Calls that every run makes: document 01's examples, and the corners that a random run could miss.
 fn corners() -> Vec<Call> {
-    let call = |kind, given| Call { kind, given, user_unit: 0, disk: 0, unit: 0 };
+    let call = |kind, given| Call { kind, given, user_unit: 0, disk: 0, unit: 0, room: 54 };
     let f = Given { v: 7, k: 3, g: 3, u: 1, list: pool::F.to_vec() };
     let map = |user_unit| Call { user_unit, ..call(Kind::Map, f.clone()) };
+    let plan = |disk| Call { disk, ..call(Kind::Plan, f.clone()) };
     let mut ninth = f.clone();
     ninth.list[18..].copy_from_slice(&[1, 4, 6]);
     let tenth = |length| call(Kind::Check, Given { v: 51, k: 8, list: vec![0; length], ..Given::default() });
     let twelfth = Given { v: 2, k: 2, g: 2, u: 1, list: vec![0, 1] };
-    let mut calls: Vec<Call> = (0..86).map(map).collect();
+    let mut calls: Vec<Call> = (0..86).map(map).chain((0..22).map(plan)).collect();
+    calls.push(Call { disk: 9, ..call(Kind::Plan, Given { list: Design::held(7, 3).numbers, ..f.clone() }) });
     calls.extend([call(Kind::Check, ninth), tenth(0), tenth(360), tenth(408)]);
     calls.push(call(Kind::Sizes, Given { g: 9, ..f.clone() }));
     calls.extend([Kind::Sizes, Kind::Map].map(|kind| call(kind, twelfth.clone())));
     calls.push(call(Kind::Check, Given { list: Vec::new(), ..twelfth }));
     let largest = |u| Given { v: 91, k: 2, g: 13, u, list: Design::complete(91).numbers };
     calls.extend([1, 775, 776, 3104, 4096].map(|u| call(Kind::Sizes, largest(u))));
+    calls.extend([6479, 6480].map(|room| Call { disk: 1182, room, ..call(Kind::Plan, largest(4096)) }));
     calls
 }

@@ -1,7 +1,7 @@
 //! Ways to spoil the arguments of a valid call, each aimed at one refusal of document 01. An aim may miss (another
 //! refusal comes first, or the call stays valid); what was really answered is what the run counts.
 
-use crate::call::Call;
+use crate::call::{Call, Kind};
 use crate::given::Given;
 use crate::random::Random;
 use compare::model::{Model, Plant};
@@ -9,8 +9,10 @@ use compare::model::{Model, Plant};
 /// Spoils a valid call so that it should be refused with the number.
 pub fn spoil(call: &mut Call, number: u32, random: &mut Random) {
     match number {
+        9 if call.kind == Kind::Plan => call.disk = beyond(call.disk, random),
         9 => disk_and_unit(call, random),
         10 => call.user_unit = beyond(call.user_unit, random),
+        14 => call.room = shorter(call.room, random),
         _ => spoil_given(&mut call.given, number, random),
     }
 }
@@ -42,6 +44,12 @@ pub fn beyond(bound: u32, random: &mut Random) -> u32 {
         3 => bound.wrapping_add(1 << random.pick(&[16, 24, 31])),
         _ => random.wild().max(bound),
     }
+}
+
+/// 14: a list shorter than the plan, by one number, by a triple, by two thirds, or by any number.
+fn shorter(needed: usize, random: &mut Random) -> usize {
+    let any = random.below(needed);
+    random.pick(&[needed - 1, needed - 1, needed - 2, needed - 3, needed / 3, 0, any, any])
 }
 
 /// 2: v or k beyond its limits, among them k > v, and numbers that become valid when their high bits are lost.

@@ -19,6 +19,12 @@ impl Word for u16 {
     }
 }
 
+impl Word for u32 {
+    fn guard(at: usize) -> u32 {
+        at.wrapping_mul(0x9E37_79B9) as u32
+    }
+}
+
 /// How many words of redzone lie behind a list, and at least before it.
 pub const REDZONE: usize = 64;
 

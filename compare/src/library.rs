@@ -54,6 +54,15 @@ pub struct RoleAnswer {
     pub c: u32,
 }
 
+/// Of the plan `count` is how many triples were written, of rebuild how many units were restored.
+#[repr(C)]
+#[derive(Clone, Copy, Debug, Default, PartialEq, Eq)]
+pub struct CountAnswer {
+    pub refusal: u32,
+    pub place: u32,
+    pub count: u32,
+}
+
 #[link(name = "host", kind = "static")]
 extern "C" {
     fn himzolven_fill(v: u32, design: *mut u16, length: usize) -> Answer;
@@ -70,6 +79,17 @@ extern "C" {
         disk: u32,
         unit: u32,
     ) -> RoleAnswer;
+    fn himzolven_plan(
+        v: u32,
+        k: u32,
+        g: u32,
+        u: u32,
+        design: *const u16,
+        length: usize,
+        disk: u32,
+        list: *mut u32,
+        list_length: usize,
+    ) -> CountAnswer;
 }
 
 /// Asks the proved library to fill the list.
@@ -109,6 +129,13 @@ pub fn map(at: &Geometry, user_unit: u32) -> MapAnswer {
 pub fn role(at: &Geometry, disk: u32, unit: u32) -> RoleAnswer {
     let (start, length) = passed(at.design);
     unsafe { himzolven_role(at.v, at.k, at.g, at.u, start, length, disk, unit) }
+}
+
+/// The plan's list, if it is empty, is passed as NULL.
+pub fn plan(at: &Geometry, disk: u32, list: &mut [u32]) -> CountAnswer {
+    let (start, length) = passed(at.design);
+    let to = if list.is_empty() { std::ptr::null_mut() } else { list.as_mut_ptr() };
+    unsafe { himzolven_plan(at.v, at.k, at.g, at.u, start, length, disk, to, list.len()) }
 }
 
 /// The independent program's answers in the interface's form: on refusal every other field is 0, and on acceptance
@@ -171,6 +198,18 @@ impl Flat for MapAnswer {
             both_disk: both.disk,
             both_unit: both.unit,
         }
+    }
+}
+
+impl Flat for CountAnswer {
+    type Value = u32;
+
+    fn refused(Refusal { number, place }: Refusal) -> Self {
+        CountAnswer { refusal: number, place, count: 0 }
+    }
+
+    fn accepted(count: u32) -> Self {
+        CountAnswer { refusal: 0, place: 0, count }
     }
 }
 

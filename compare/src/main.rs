@@ -8,6 +8,7 @@ mod given;
 mod hostile;
 mod lent;
 mod library;
+mod loss;
 mod pool;
 mod random;
 mod run;
@@ -28,7 +29,7 @@ const USAGE: &str = "usage: compare compare [--seed N] [--calls N]   random call
        compare faults [--seed N]                 planted faults, each to be found";
 
 /// The number of calls of a run, unless it is told another.
-const CALLS: u64 = 120_000;
+const CALLS: u64 = 140_000;
 
 /// The seed of a run that is told none.
 fn clock() -> u64 {

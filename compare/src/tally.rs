@@ -1,5 +1,8 @@
 //! How often each call gave each answer, and what a run must show of it.
 
+/// The least number of calls of a run.
+const CALLS: u64 = 100_000;
+
 /// The least number of times that each refusal of each call must occur in a run.
 const LEAST: u64 = 500;
 
@@ -40,16 +43,19 @@ impl Tally {
 
     /// One line a call: the calls, those accepted, then each refusal that applies.
     pub fn print(&self) {
-        println!("call     calls accepted  refused: number x times");
+        println!("call      calls accepted  refused: number x times");
         for line in &self.0 {
             let number = |number: &u32| format!("{number} x {}", line.counts[*number as usize]);
             let refusals: Vec<String> = line.refusals.iter().map(number).collect();
-            println!("{:6} {:7} {:8}  {}", line.name, line.calls(), line.counts[0], refusals.join(", "));
+            println!("{:7} {:7} {:8}  {}", line.name, line.calls(), line.counts[0], refusals.join(", "));
         }
     }
 
-    /// What a run must show: half of the calls accepted, and each refusal of each call often enough.
+    /// What a run must show: calls enough, half of them accepted, and each refusal of each call often enough.
     pub fn demands(&self) -> Result<(), String> {
+        if self.calls() < CALLS {
+            return Err(format!("fewer than {CALLS} calls were made"));
+        }
         if self.accepted() * 2 < self.calls() {
             return Err("fewer than half of the calls were accepted".into());
         }

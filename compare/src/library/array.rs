@@ -1,6 +1,6 @@
 //! The calls on the array in the proved library's C interface.
 
-use super::{Answer, Flat};
+use super::{Answer, CountAnswer, Flat};
 use compare::model::{Audit, Geometry, Refusal};
 use std::ptr::{null, null_mut};
 
@@ -69,6 +69,18 @@ extern "C" {
         array: *const u8,
         array_length: usize,
     ) -> AuditAnswer;
+    fn himzolven_rebuild(
+        v: u32,
+        k: u32,
+        g: u32,
+        u: u32,
+        design: *const u16,
+        length: usize,
+        array: *mut u8,
+        array_length: usize,
+        marks: *mut u8,
+        marks_length: usize,
+    ) -> CountAnswer;
 }
 
 /// The calls with one geometry. Lists of length 0 are passed as NULL if `null`, else as they are.
@@ -119,6 +131,12 @@ impl Asking<'_> {
         let Geometry { v, k, g, u, design } = self.at;
         unsafe { himzolven_audit(v, k, g, u, self.source(design), design.len(), self.source(array), array.len()) }
     }
+
+    pub fn rebuild(&self, array: &mut [u8], marks: &mut [u8]) -> CountAnswer {
+        let Geometry { v, k, g, u, design } = self.at;
+        let (n, to, of) = (design.len(), self.target(array), self.target(marks));
+        unsafe { himzolven_rebuild(v, k, g, u, self.source(design), n, to, array.len(), of, marks.len()) }
+    }
 }
 
 impl Flat for AuditAnswer {
@@ -130,12 +148,5 @@ impl Flat for AuditAnswer {
 
     fn accepted(Audit { bad, lowest }: Audit) -> Self {
         AuditAnswer { refusal: 0, place: 0, bad, lowest }
-    }
-}
-
-impl From<Answer> for AuditAnswer {
-    /// The answer of another call, with no set counted.
-    fn from(Answer { refusal, place }: Answer) -> Self {
-        AuditAnswer { refusal, place, ..Default::default() }
     }
 }

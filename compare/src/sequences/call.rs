@@ -4,7 +4,7 @@ use super::pair::Shelf;
 use crate::given::Given;
 use crate::lent::Lent;
 use crate::library::array::{Asking, AuditAnswer};
-use crate::library::{Answer, Flat};
+use crate::library::{Answer, CountAnswer, Flat};
 use compare::model::Model;
 use std::fmt;
 
@@ -15,13 +15,14 @@ pub enum Kind {
     Read,
     Write,
     Audit,
+    Rebuild,
 }
 
 impl Kind {
-    pub const ALL: [Kind; 4] = [Kind::Format, Kind::Read, Kind::Write, Kind::Audit];
+    pub const ALL: [Kind; 5] = [Kind::Format, Kind::Read, Kind::Write, Kind::Audit, Kind::Rebuild];
 
     pub fn name(self) -> &'static str {
-        ["format", "read", "write", "audit"][self as usize]
+        ["format", "read", "write", "audit", "rebuild"][self as usize]
     }
 
     /// The refusal numbers of document 01 that apply to the call.
@@ -30,7 +31,35 @@ impl Kind {
             Kind::Format => &[2, 3, 4, 5, 6, 7, 8],
             Kind::Read | Kind::Write => &[2, 3, 4, 5, 6, 7, 8, 10, 11, 12],
             Kind::Audit => &[2, 3, 4, 5, 6, 7],
+            Kind::Rebuild => &[2, 3, 4, 5, 6, 7, 8, 13],
         }
+    }
+}
+
+/// What a call answered: refusal and place, and what it counted: of audit the bad sets and the lowest, of rebuild the
+/// restored units.
+#[derive(Clone, Copy, Debug, PartialEq, Eq)]
+pub struct Reply {
+    pub refusal: u32,
+    pub place: u32,
+    pub counted: [u32; 2],
+}
+
+impl From<Answer> for Reply {
+    fn from(Answer { refusal, place }: Answer) -> Self {
+        Reply { refusal, place, counted: [0, 0] }
+    }
+}
+
+impl From<AuditAnswer> for Reply {
+    fn from(AuditAnswer { refusal, place, bad, lowest }: AuditAnswer) -> Self {
+        Reply { refusal, place, counted: [bad, lowest] }
+    }
+}
+
+impl From<CountAnswer> for Reply {
+    fn from(CountAnswer { refusal, place, count }: CountAnswer) -> Self {
+        Reply { refusal, place, counted: [count, 0] }
     }
 }
 
@@ -52,7 +81,7 @@ pub struct Call {
 
 impl Call {
     /// Asks the proved library; `design` and `bytes` are lent as well.
-    pub fn ask_library(&self, shelf: &mut Shelf, design: &mut Lent<u16>, bytes: &mut Lent<u8>) -> AuditAnswer {
+    pub fn ask_library(&self, shelf: &mut Shelf, design: &mut Lent<u16>, bytes: &mut Lent<u8>) -> Reply {
         let asking = Asking { at: self.given.geometry(design.lend(self.given.list.len())), null: self.null };
         let (array, marks) = (shelf.array.lend(self.array), shelf.marks.lend(self.marks));
         let bytes = bytes.lend(self.bytes.len());
@@ -60,12 +89,13 @@ impl Call {
             Kind::Format => asking.format(array, marks).into(),
             Kind::Read => asking.read(array, marks, self.user_unit, self.offset, bytes).into(),
             Kind::Write => asking.write(array, marks, self.user_unit, self.offset, bytes).into(),
-            Kind::Audit => asking.audit(array),
+            Kind::Audit => asking.audit(array).into(),
+            Kind::Rebuild => asking.rebuild(array, marks).into(),
         }
     }
 
     /// Asks the independent program.
-    pub fn ask_model(&self, model: &mut Model, shelf: &mut Shelf, bytes: &mut Lent<u8>) -> AuditAnswer {
+    pub fn ask_model(&self, model: &mut Model, shelf: &mut Shelf, bytes: &mut Lent<u8>) -> Reply {
         let at = &self.given.geometry(&self.given.list);
         let (array, marks) = (shelf.array.lend(self.array), shelf.marks.lend(self.marks));
         let bytes = bytes.lend(self.bytes.len());
@@ -73,7 +103,8 @@ impl Call {
             Kind::Format => model.format(at, array, marks),
             Kind::Read => model.read(at, array, marks, self.user_unit, self.offset, bytes),
             Kind::Write => model.write(at, array, marks, self.user_unit, self.offset, bytes),
-            Kind::Audit => return AuditAnswer::flat(model.audit(at, array)),
+            Kind::Audit => return AuditAnswer::flat(model.audit(at, array)).into(),
+            Kind::Rebuild => return CountAnswer::flat(model.rebuild(at, array, marks)).into(),
         };
         Answer::flat(result).into()
     }

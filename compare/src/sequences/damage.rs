@@ -19,6 +19,15 @@ pub fn damage(array: &mut Array, random: &mut Random) -> Damage {
     }
 }
 
+/// All bytes of lost disks, of nine at most: rebuild has to look at none of them.
+pub fn scrambled(array: &Array, marks: &[u8], random: &mut Random) -> Damage {
+    let disk = array.bytes() / marks.len();
+    let lost = (0..marks.len()).filter(|disk| marks[*disk] == 1).take(9);
+    let bytes: Vec<usize> = lost.flat_map(|lost| lost * disk..(lost + 1) * disk).collect();
+    let with = random.bytes(bytes.len());
+    bytes.into_iter().zip(with).collect()
+}
+
 /// A byte of the last inner parity of the last tuple's last region: it lies in the last set alone. Its group is the last
 /// number of the design, its unit the last of that group's last part, its column 0.
 fn last_parity(array: &Array, random: &mut Random) -> usize {

@@ -1,5 +1,5 @@
 //! Arrays near the limit of 1,073,741,824 bytes, and such whose bytes wrap in 32 bits. They hold zeros, and nothing is
-//! stored to them but what a write stores, so that nearly none of the memory is ever there.
+//! stored to them but what a write stores and one disk that is rebuilt, so that nearly none of the memory is ever there.
 
 use super::array::Array;
 use super::call::{Call, Kind};
@@ -7,6 +7,7 @@ use super::crash;
 use super::pair::{Pair, Shelf, Step};
 use crate::given::Given;
 use crate::lent::Lent;
+use crate::loss;
 use crate::pool::Design;
 use compare::model::Model;
 
@@ -22,8 +23,8 @@ struct Corner {
 /// The corners: the arrays nearest to the limit on both sides, the largest geometry around the limit, and the same with a
 /// u whose bytes are 1,310,144 in 32 bits. Format comes last, and is never accepted: it would store to every byte.
 fn corners(pool: &[Design]) -> Vec<Corner> {
-    let all = vec![Kind::Read, Kind::Write, Kind::Audit, Kind::Format];
-    let accepted = vec![Kind::Write, Kind::Read, Kind::Audit];
+    let all = vec![Kind::Read, Kind::Write, Kind::Audit, Kind::Rebuild, Kind::Format];
+    let accepted = vec![Kind::Write, Kind::Read, Kind::Rebuild, Kind::Audit];
     let largest = |u| Given { v: 91, k: 2, g: 13, u, list: Design::complete(91).numbers };
     let (below, above) = nearest(pool);
     vec![
@@ -62,13 +63,13 @@ fn nearest(pool: &[Design]) -> (Given, Given) {
 pub fn run(pool: &[Design], model: &mut Model, mut made: impl FnMut(Kind, u32)) -> Result<(), String> {
     let mut number = 0;
     for Corner { given, lent, calls } in corners(pool) {
-        let array = Array::of(given);
+        let mut array = Array::of(given);
         let marks = vec![0; array.sizes.disks as usize];
         let shelf = || Shelf { array: Lent::zeros(lent as usize, 5), marks: Lent::of(&marks, 0) };
         let mut pair = Pair::of(shelf(), shelf(), 0);
         for kind in calls {
             crash::at(crash::LIMIT, number);
-            let step = step(kind, &array, lent as usize);
+            let step = step(kind, &mut array, lent as usize);
             let answer = pair.step(&step, model).map_err(|fault| format!("{fault}\n  asked: {}", step.call))?;
             made(kind, answer.refusal);
             number += 1;
@@ -77,11 +78,13 @@ pub fn run(pool: &[Design], model: &mut Model, mut made: impl FnMut(Kind, u32)) 
     Ok(())
 }
 
-/// A call about the last user unit, whole.
-fn step(kind: Kind, array: &Array, lent: usize) -> Step {
+/// A call about the last user unit, whole; rebuild is asked for its disk.
+fn step(kind: Kind, array: &mut Array, lent: usize) -> Step {
     let (given, sizes) = (array.given.clone(), array.sizes);
     let bytes = (0..given.u).map(|at| at as u8 | 1).collect();
-    let (marks, user_unit) = (sizes.disks as usize, sizes.user_units - 1);
-    let call = Call { kind, given, array: lent, marks, user_unit, offset: 0, bytes, null: false };
-    Step { marks: vec![0; marks], damage: Vec::new(), repair: false, call }
+    let user_unit = sizes.user_units - 1;
+    let lost = if kind == Kind::Rebuild { array.four(user_unit).map(|four| four[0].disk as usize) } else { None };
+    let marks = loss::marks(sizes.disks, lost.as_slice());
+    let call = Call { kind, given, array: lent, marks: marks.len(), user_unit, offset: 0, bytes, null: false };
+    Step { marks, damage: Vec::new(), repair: false, call }
 }

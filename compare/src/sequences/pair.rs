@@ -1,8 +1,7 @@
 //! An array with its marks, twice: one is lent to the proved library, one to the independent program.
 
-use super::call::Call;
+use super::call::{Call, Kind, Reply};
 use crate::lent::Lent;
-use crate::library::array::AuditAnswer;
 use compare::model::Model;
 
 /// What a sequence of calls works on.
@@ -14,7 +13,8 @@ pub struct Shelf {
 /// Bytes of the array that the harness changes: index and what is XORed in.
 pub type Damage = Vec<(usize, u8)>;
 
-/// What the harness does around a call: it sets the marks and damages the array before it, and may repair it after.
+/// What the harness does around a call: it sets the marks and damages the array before it, and may repair it after; of
+/// rebuild, only where it was refused: else the damaged disks have been restored.
 pub struct Step {
     pub marks: Vec<u8>,
     pub damage: Damage,
@@ -47,20 +47,20 @@ impl Pair {
     }
 
     /// Takes a step on both shelves and compares the answers and every lent byte, redzones and all.
-    pub fn step(&mut self, step: &Step, model: &mut Model) -> Result<AuditAnswer, String> {
+    pub fn step(&mut self, step: &Step, model: &mut Model) -> Result<Reply, String> {
         for shelf in [&mut self.library, &mut self.model] {
             shelf.marks.lend(step.marks.len()).copy_from_slice(&step.marks);
             shelf.damage(&step.damage);
         }
         let answer = self.ask(&step.call, model)?;
-        if step.repair {
+        if step.repair && !(step.call.kind == Kind::Rebuild && answer.refusal == 0) {
             self.library.damage(&step.damage);
             self.model.damage(&step.damage);
         }
         Ok(answer)
     }
 
-    fn ask(&mut self, call: &Call, model: &mut Model) -> Result<AuditAnswer, String> {
+    fn ask(&mut self, call: &Call, model: &mut Model) -> Result<Reply, String> {
         let lent = || Lent::of(&call.bytes, self.shift);
         let (mut ours, mut bytes, mut design) = (lent(), lent(), Lent::of(&call.given.list, 0));
         let expected = call.ask_model(model, &mut self.model, &mut ours);

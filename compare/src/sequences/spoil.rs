@@ -5,6 +5,7 @@ use super::call::Kind;
 use super::pair::Step;
 use crate::hostile::{beyond, spoil_given};
 use crate::lent::REDZONE;
+use crate::loss;
 use crate::random::Random;
 
 /// Spoils a valid step so that its call should be refused with the number.
@@ -20,6 +21,10 @@ pub fn spoil(step: &mut Step, number: u32, array: &mut Array, random: &mut Rando
             call.bytes = random.bytes(length);
         }
         12 => marked_units(step, array, random),
+        13 => {
+            let lost = loss::hopeless(array.given.v, array.given.g, random);
+            step.marks = loss::marks(array.sizes.disks, &lost);
+        }
         _ => spoil_given(&mut call.given, number, random),
     }
 }

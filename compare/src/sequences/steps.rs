@@ -2,11 +2,12 @@
 
 use super::array::Array;
 use super::call::{Call, Kind};
-use super::damage::damage;
+use super::damage::{damage, scrambled};
 use super::pair::{Pair, Shelf, Step};
 use super::spoil::{inside, spoil};
 use crate::hostile::wild_numbers;
 use crate::lent::Lent;
+use crate::loss;
 use crate::pool::Design;
 use crate::random::Random;
 
@@ -29,7 +30,7 @@ impl Steps {
             None => drawn(pool, &mut random),
         };
         let array = Array::drawn(&design, &mut random);
-        let (settled, left) = (random.one_in(2), 25 + random.below(11));
+        let (settled, left) = (random.one_in(2), 28 + random.below(13));
         Steps { random, array, settled, left, first: true }
     }
 
@@ -52,11 +53,12 @@ impl Steps {
         if format {
             return Some(self.valid(Kind::Format, now));
         }
-        let (kind, valid) = match self.random.below(40) {
+        let (kind, valid) = match self.random.below(48) {
             0..=3 => (Kind::Format, 30),
             4..=13 => (Kind::Read, 60),
             14..=29 => (Kind::Write, 70),
-            _ => (Kind::Audit, 70),
+            30..=39 => (Kind::Audit, 70),
+            _ => (Kind::Rebuild, 50),
         };
         let of_hundred = self.random.below(100);
         Some(if of_hundred < valid {
@@ -68,22 +70,25 @@ impl Steps {
         })
     }
 
-    /// A step whose call is accepted.
+    /// A step whose call is accepted; of rebuild it may be refused with 13.
     fn valid(&mut self, kind: Kind, now: &Shelf) -> Step {
         let user_unit = self.user_unit();
         let four = self.array.four(user_unit).expect("the user unit is below their number");
         let (offset, length) = inside(self.array.given.u, &mut self.random);
         let old = &now.array.list()[self.array.start(four[0]) + offset as usize..][..length];
         let bytes = if kind == Kind::Write { self.new_bytes(old) } else { self.random.bytes(length) };
-        let mut marks = self.marks(now.marks.list());
+        let mut marks = self.marks(kind, now.marks.list());
         let asked = match kind {
             Kind::Read => &four[..1],
             Kind::Write => &four[..],
-            Kind::Format | Kind::Audit => &[],
+            Kind::Format | Kind::Audit | Kind::Rebuild => &[],
         };
         asked.iter().for_each(|place| marks[place.disk as usize] = 0);
-        let damaged = kind == Kind::Audit && self.random.one_in(2);
-        let damage = if damaged { damage(&mut self.array, &mut self.random) } else { Vec::new() };
+        let damage = match kind {
+            Kind::Audit if self.random.one_in(2) => damage(&mut self.array, &mut self.random),
+            Kind::Rebuild if !self.random.one_in(4) => scrambled(&self.array, &marks, &mut self.random),
+            _ => Vec::new(),
+        };
         let (array, disks, given) = (self.array.bytes(), marks.len(), self.array.given.clone());
         let null = self.random.one_in(2);
         let call = Call { kind, given, array, marks: disks, user_unit, offset, bytes, null };
@@ -132,8 +137,12 @@ impl Steps {
         bytes
     }
 
-    /// Marks of 0 and 1: those that are there with none above 1, none, some more, or any.
-    fn marks(&mut self, now: &[u8]) -> Vec<u8> {
+    /// Marks of 0 and 1: those that are there with none above 1, none, some more, or any; of rebuild a drawn loss.
+    fn marks(&mut self, kind: Kind, now: &[u8]) -> Vec<u8> {
+        if kind == Kind::Rebuild {
+            let (v, g) = (self.array.given.v, self.array.given.g);
+            return loss::marks(self.array.sizes.disks, &loss::drawn(v, g, &mut self.random));
+        }
         let mut marks: Vec<u8> = now.iter().map(|mark| u8::from(*mark == 1)).collect();
         match self.random.below(8) {
             0..=2 => {}

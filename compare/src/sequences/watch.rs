@@ -1,20 +1,20 @@
 //! What the sets alone say of a write: each keeps the XOR that it had. So an array that was consistent is consistent
-//! again, and in another the same sets are bad.
+//! again, and in another the same sets are bad. A rebuild makes a consistent array consistent again.
 
-use super::call::Kind;
+use super::call::{Kind, Reply};
 use super::pair::{Shelf, Step};
 use crate::given::Given;
-use crate::library::array::AuditAnswer;
 use compare::model::{Audit, Model};
 
 const CONSISTENT: Audit = Audit { bad: 0, lowest: 0 };
 
 /// What the independent program's walk through the sets found in the array last, if the harness did not change it since;
-/// and how many writes were watched and audits accepted, each on consistent and on other arrays.
+/// and how many writes and rebuilds were watched and audits accepted, each on consistent and on other arrays.
 #[derive(Default)]
 pub struct Watch {
     found: Option<Audit>,
     writes: [u64; 2],
+    rebuilds: [u64; 2],
     audits: [u64; 2],
 }
 
@@ -25,25 +25,27 @@ impl Watch {
     }
 
     /// Looks at the array after a step. A spoiled design may be another design, with rows in another order, by which a
-    /// write is accepted as well: then nothing follows for the sets of the given one.
+    /// write or rebuild is accepted as well: then nothing follows for the sets of the given one.
     pub fn after(
         &mut self,
         step: &Step,
-        answer: &AuditAnswer,
+        answer: &Reply,
         model: &mut Model,
         now: &Shelf,
         given: &Given,
     ) -> Result<(), String> {
-        if !step.damage.is_empty() && !step.repair {
+        let accepted = answer.refusal == 0;
+        let same = step.call.given.list == given.list;
+        let rebuilt = accepted && step.call.kind == Kind::Rebuild;
+        if !step.damage.is_empty() && !step.repair && !rebuilt {
             self.found = None;
         }
-        let accepted = answer.refusal == 0;
         let before = match step.call.kind {
             Kind::Format if accepted => Some(CONSISTENT),
-            Kind::Write if accepted && step.call.given.list == given.list => self.found,
-            Kind::Write if accepted => None,
+            Kind::Write if accepted => self.found.filter(|_| same),
+            Kind::Rebuild if accepted => self.found.filter(|found| same && *found == CONSISTENT),
             Kind::Audit if accepted => {
-                self.audits[usize::from(answer.bad > 0)] += 1;
+                self.audits[usize::from(answer.counted[0] > 0)] += 1;
                 return Ok(());
             }
             _ => return Ok(()),
@@ -57,15 +59,17 @@ impl Watch {
         if let (Kind::Write, Some(before)) = (step.call.kind, before) {
             self.writes[usize::from(before != CONSISTENT)] += 1;
         }
+        self.rebuilds[usize::from(before.is_none())] += u64::from(rebuilt);
         Ok(())
     }
 
     pub fn print(&self) {
-        let Watch { writes, audits, .. } = self;
+        let Watch { writes, rebuilds, audits, .. } = self;
         println!(
             "{} writes on consistent arrays left them so, {} on others left as many sets bad",
             writes[0], writes[1]
         );
+        println!("{} rebuilds of consistent arrays left them so, {} were of others", rebuilds[0], rebuilds[1]);
         println!("{} audits found all sets zero, {} found bad ones", audits[0], audits[1]);
     }
 }
