@@ -3,6 +3,7 @@
 use crate::call::Call;
 use crate::generator::Generator;
 use crate::pool::{self, Design};
+use crate::{losses, printed, sequences};
 use compare::model::{Fault, Model, Plant};
 use std::panic::{catch_unwind, set_hook, AssertUnwindSafe};
 
@@ -34,9 +35,10 @@ type Find = fn(Fault, u64, &[Design]) -> Option<String>;
 
 /// The faults, each with the way in which it is looked for.
 fn planted() -> impl Iterator<Item = (Fault, Find)> {
-    let mapping = Fault::MAPPING.iter().map(|fault| (*fault, find as Find));
-    let mapping = mapping.chain(Fault::ARRAY.iter().map(|fault| (*fault, crate::sequences::find as Find)));
-    mapping
+    let sought = |faults: &'static [Fault], find: Find| faults.iter().map(move |fault| (*fault, find));
+    let mapping = sought(Fault::MAPPING, find).chain(sought(Fault::PLAN, find));
+    let array = sought(Fault::ARRAY, sequences::find).chain(sought(Fault::REBUILD, losses::find));
+    mapping.chain(array).chain(sought(Fault::PRINTER, printed::find))
 }
 
 /// The first call on which the faulty program answers otherwise, or breaks down over a design it should have refused.

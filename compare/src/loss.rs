@@ -5,17 +5,17 @@ use crate::random::Random;
 /// The most disks of a random loss.
 const MOST: usize = 9;
 
-/// At most nine lost disks, upwards: any; some of one to three groups; one group as far as nine reach and one disk of
+/// At most nine lost disks, upwards: any; some of two or three groups; one group as far as nine reach and one disk of
 /// others; or two disks of each of two groups, and perhaps one of another.
 pub fn drawn(v: u32, g: u32, random: &mut Random) -> Vec<usize> {
     let (v, g) = (v as usize, g as usize);
     let mut groups: Vec<usize> = (0..v).collect();
     random.shuffle(&mut groups);
     let count = random.below(MOST + 1);
-    let mut lost: Vec<usize> = match random.below(8) {
+    let mut lost: Vec<usize> = match random.below(9) {
         0..=2 => random.ascending(count.min(v * g), v * g).into_iter().map(usize::from).collect(),
-        3 | 4 => some_of(&groups[..v.min(1 + random.below(3))], g, count, random),
-        5 | 6 => {
+        3..=5 => some_of(&groups[..v.min(2 + random.below(2))], g, count, random),
+        6 => {
             let mut lost = some_of(&groups[..1], g, g.min(MOST), random);
             lost.extend(groups[1..].iter().take(count).map(|group| group * g + random.below(g)));
             lost

@@ -9,7 +9,9 @@ mod hostile;
 mod lent;
 mod library;
 mod loss;
+mod losses;
 mod pool;
+mod printed;
 mod random;
 mod run;
 mod sequences;
@@ -24,6 +26,11 @@ const USAGE: &str = "usage: compare compare [--seed N] [--calls N]   random call
                                                  sequences of calls on arrays, every lent byte compared; a long run is
                                                  `compare sequences --count 100000`, one sequence alone
                                                  `compare sequences --seed N --from N --count 1`
+       compare losses [--seed N] [--from N] [--count N]
+                                                 disks lost and rebuilt: every loss of up to five disks of design F,
+                                                 then random losses; one array alone
+                                                 `compare losses --seed N --from N --count 1`
+       compare printed PRINTER [--seed N]        the plan printer, run on lines of every kind
        compare units                             every unit and user unit of many arrays
        compare figure4 FILE                      document 000's figure 4, from a data file
        compare faults [--seed N]                 planted faults, each to be found";
@@ -56,7 +63,10 @@ fn asked(words: &[&str]) -> Option<Result<(), String>> {
         }
         ["sequences", rest @ ..] => options(rest, [seed, ("--from", 0), ("--count", sequences::COUNT)])
             .map(|[seed, from, count]| sequences::run(seed, from, count)),
+        ["losses", rest @ ..] => options(rest, [seed, ("--from", 0), ("--count", losses::COUNT)])
+            .map(|[seed, from, count]| losses::run(seed, from, count)),
         ["faults", rest @ ..] => options(rest, [seed]).map(|[seed]| faults::run(seed)),
+        ["printed", printer, rest @ ..] => options(rest, [seed]).map(|[seed]| printed::run(printer, seed)),
         ["units"] => Some(units::run()),
         ["figure4", path] => Some(figure4::run(path)),
         _ => None,

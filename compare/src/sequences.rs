@@ -1,15 +1,15 @@
 //! `sequences`: calls on arrays, many on each, asked of the proved library and of the independent program alike; after
 //! every call the answers and every lent byte are compared.
 
-mod array;
-mod call;
+pub mod array;
+pub mod call;
 mod crash;
 mod damage;
 mod limit;
-mod pair;
+pub mod pair;
 mod spoil;
-mod steps;
-mod taken;
+pub mod steps;
+pub mod taken;
 mod watch;
 
 use crate::pool::{self, Design};
@@ -45,7 +45,7 @@ pub fn run(seed: u64, from: u64, count: u64) -> Result<(), String> {
     limit::run(&pool, &mut model, |kind, refusal| tally.add(kind as usize, refusal))?;
     tally.print();
     watch.print();
-    taken.print();
+    taken.print(", and some near the limit");
     println!("{} calls, {} accepted, no difference", tally.calls(), tally.accepted());
     if count < COUNT {
         return Ok(());

@@ -155,7 +155,7 @@ impl Steps {
 }
 
 /// A design, mostly with other labels: one of the smallest, whose units can be long, or any, the large ones seldom.
-fn drawn(pool: &[Design], random: &mut Random) -> Design {
+pub fn drawn(pool: &[Design], random: &mut Random) -> Design {
     let smallest = random.one_in(3);
     loop {
         let design = &pool[random.below(pool.len())];

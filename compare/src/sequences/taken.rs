@@ -23,7 +23,7 @@ impl Taken {
         range.into_iter().for_each(|range| *self.units.entry(range).or_default() += 1);
     }
 
-    pub fn print(&self) {
+    pub fn print(&self, more: &str) {
         let count = self.bytes.len().max(1);
         let (least, most) = (self.bytes.iter().min().unwrap_or(&0), self.bytes.iter().max().unwrap_or(&0));
         let mean = self.bytes.iter().sum::<usize>() / count;
@@ -33,10 +33,7 @@ impl Taken {
             false => format!("{least} to {most} x {times}"),
         };
         let units: Vec<String> = self.units.iter().map(range).collect();
-        println!(
-            "{} arrays of {least} to {most} bytes ({mean} in the mean), and some near the limit",
-            self.bytes.len()
-        );
+        println!("{} arrays of {least} to {most} bytes ({mean} in the mean){more}", self.bytes.len());
         println!("g: {}; u: {}", groups.join(", "), units.join(", "));
     }
 }
