@@ -62,6 +62,7 @@ enum himzolven_refusal {
     HIMZOLVEN_BAD_RANGE = 11,     /* range leaves the unit: its offset plus its length is above u */
     HIMZOLVEN_LOST = 12,          /* read: data disk marked; write: any of its four disks marked; place: first marked disk of
                                    * data, outer parity, inner parity of data, inner parity of outer parity */
+    HIMZOLVEN_INCOMPLETE = 13,    /* rebuild leaves a tuple incomplete; place: the lowest such tuple */
     HIMZOLVEN_SHORT_LIST = 14     /* plan list shorter than 3*r*(g-1)*k */
 };
 
@@ -122,7 +123,7 @@ typedef struct {
     uint32_t lowest;
 } himzolven_audit_answer;
 
-/* count: of the triples that a plan has written. */
+/* count: of the triples that a plan has written, or of the units that a rebuild has restored. */
 typedef struct {
     uint32_t refusal;
     uint32_t place;
@@ -172,6 +173,16 @@ himzolven_answer himzolven_write(
 himzolven_audit_answer himzolven_audit(
     uint32_t v, uint32_t k, uint32_t g, uint32_t u, const uint16_t *design, size_t design_length, const uint8_t *array,
     size_t array_length);
+
+/* Rebuilds: the units of the disks whose mark is 1 get their bytes back from the present ones, and all marks become 0. Tuple by
+ * tuple, upwards, passes go over the missing units by position, row and column; one whose outer set lacks only it becomes the XOR
+ * of the rest, otherwise one whose inner set lacks only it, until a pass restores nothing. Any three lost disks come back, and many
+ * larger losses: whether all do is known from the marks before a byte moves, and if not, nothing is changed. What the lost disks
+ * held does not count; no byte of a present disk changes. `count`: the units restored, those of the lost disks. On an array whose
+ * sets XOR to zero (himzolven_audit) each unit is what it was. Refusals 2, 3, 4, 5, 6, 7, 8, 13. */
+himzolven_count_answer himzolven_rebuild(
+    uint32_t v, uint32_t k, uint32_t g, uint32_t u, const uint16_t *design, size_t design_length, uint8_t *array,
+    size_t array_length, uint8_t *marks, size_t marks_length);
 
 /* The plan for one disk: which units of other disks are read to restore each of its units. The list gets `count` = r*(g-1)*k
  * triples of three numbers: unit restored, source disk, source unit. They go by the unit restored, upwards; then, for a unit of

@@ -1,21 +1,27 @@
 -- The table holds: antt computes each answer. Assumes nothing.
 use Prim.Native.Nat.{ℕ}
-use mathlib.Core.Path.{refl}
+use mathlib.Core.Path.{_≡_, refl}
 use mathlib.Core.List.{List}
+use lib.ListN.{length}
 use Rattle.counting.specs.Counting.{countBelow, lowest}
 use Rattle.geometry.specs.Geometry.{beyondLimits, rOf, bOf, whole, noDivisorBelow, sizesAllowed, disksOf, partsOf, unitsOf, tuplesOf, userUnitsOf, tupleSetsOf, setsOf, bytesOf}
 use Rattle.design.specs.Design.{groupAt, names}
 use Rattle.checking.specs.Rules.{rowBad, rowsWith, pairBad, designRules}
 use Rattle.sizes.specs.Sizes.{sizesRules, sizesOf}
-use Rattle.cells.specs.Cells.{labelColumn, diagonalAt, parityPosition, dataPosition}
+use Rattle.cells.specs.Cells.{labelColumn, labelAt, diagonalColumn, diagonalAt, parityPosition, dataPosition}
 use Rattle.cells.specs.Roles.{userColumn, userRow, userRegion, userTuple, userCell, userOuter, innerOf}
 use Rattle.layout.specs.Regions.{partOf}
 use Rattle.layout.specs.Places.{placeOf, fourOf}
+use Rattle.layout.specs.Marks.{lost}
 use Rattle.address.specs.Address.{mapRules}
+use Rattle.array.specs.Rules.{arrayFits, markHigh, arrayRules}
+use Rattle.peeling.specs.Peeling.{lacksOnly, restored, presentAfter, tried, visit, sweep, passes, peeled}
+use Rattle.reaching.specs.Reach.{tupleCellsOf, numberOf, cellNumbered, outerSide, innerSide, sidesOf, hereOf, stepsOf, incomplete}
+use Rattle.rebuilding.specs.Rebuild.{restoredBelow, restoredOf, rebuildRules}
 use Rattle.examples.specs.Examples.{Examples}
 
 pub examples : Examples
-unfolding countBelow lowest beyondLimits rOf bOf whole noDivisorBelow sizesAllowed disksOf partsOf unitsOf tuplesOf userUnitsOf tupleSetsOf setsOf bytesOf groupAt names rowBad rowsWith pairBad designRules sizesRules sizesOf labelColumn diagonalAt parityPosition dataPosition userColumn userRow userRegion userTuple userCell userOuter innerOf partOf placeOf fourOf mapRules
+unfolding countBelow lowest beyondLimits rOf bOf whole noDivisorBelow sizesAllowed disksOf partsOf unitsOf tuplesOf userUnitsOf tupleSetsOf setsOf bytesOf groupAt names rowBad rowsWith pairBad designRules sizesRules sizesOf labelColumn diagonalAt parityPosition dataPosition userColumn userRow userRegion userTuple userCell userOuter innerOf partOf placeOf fourOf mapRules labelAt diagonalColumn lost arrayFits arrayRules lacksOnly restored presentAfter tried visit sweep passes peeled tupleCellsOf numberOf cellNumbered outerSide innerSide sidesOf hereOf stepsOf incomplete restoredBelow restoredOf rebuildRules markHigh
 examples =
     record {
       sizes-of-F = refl;
@@ -24,6 +30,9 @@ examples =
       example-3 = refl;
       example-4 = refl;
       example-5 = refl;
+      example-6 = λ (a : List ℕ) (e : length a ≡ 189). rw e;
+      example-7 = λ (a : List ℕ) (e : length a ≡ 189). rw e;
+      example-8 = λ (a : List ℕ) (e : length a ≡ 189). rw e;
       example-9 = refl;
       example-10 = λ (d : List ℕ). refl;
       example-11 = refl;

@@ -4,7 +4,7 @@
 use Prim.Native.Nat.{ℕ}
 use mathlib.Core.Path.{_≡_}
 use mathlib.Core.List.{List, [], _∷_, _++_}
-use lib.ListN.{take}
+use lib.ListN.{take, length, replicate}
 use Rattle.refusal.specs.Refusal.{Outcome, refused, accepted, answer, verdict}
 use Rattle.geometry.specs.declared.Geometry.{Geometry}
 use Rattle.checking.specs.Rules.{designRules}
@@ -14,6 +14,7 @@ use Rattle.layout.specs.declared.Place.{Place}
 use Rattle.layout.specs.declared.Four.{Four}
 use Rattle.layout.specs.Places.{place, fourOf}
 use Rattle.address.specs.Address.{mapRules}
+use Rattle.rebuilding.specs.Rebuild.{restoredOf, rebuildRules}
 use Rattle.equation1.specs.F.{F, shelf}
 
 -- what the map answers for user unit n of F
@@ -35,7 +36,12 @@ brokenF = take 18 F ++ (1 ∷ 4 ∷ 6 ∷ [])
 abbrev pub smallest : Geometry
 smallest = record { v = 2; k = 2; g = 2; u = 1 }
 
--- the table; a field is an example's number in 01 (6 to 8 are of the rebuild)
+-- what the rebuild answers for F with these bytes, where these are the marks of the first disks and no other disk is lost
+abbrev pub rebuildF : (first a : List ℕ) → Outcome ℕ
+rebuildF first a =
+    let marks = first ++ replicate 16 0 in answer (rebuildRules (shelf 3) F (length a) marks) (restoredOf (shelf 3) F marks)
+
+-- the table; a field is an example's number in 01
 pub record Examples : Type 0 where
   pub sizes-of-F :
       sizesAt (shelf 3) F
@@ -45,6 +51,10 @@ pub record Examples : Type 0 where
   pub example-3 : mapF 11 ≡ four (place 6 1) (place 19 1) (place 7 2) (place 20 2)
   pub example-4 : mapF 83 ≡ four (place 15 7) (place 19 7) (place 16 8) (place 20 8)
   pub example-5 : mapF 84 ≡ refused 10 0
+  -- for all bytes of the 21 disks
+  pub example-6 : (a : List ℕ) → length a ≡ 189 → rebuildF (0 ∷ 0 ∷ 0 ∷ 0 ∷ 0 ∷ []) a ≡ accepted 0
+  pub example-7 : (a : List ℕ) → length a ≡ 189 → rebuildF (1 ∷ 1 ∷ 1 ∷ 1 ∷ 0 ∷ []) a ≡ accepted 36
+  pub example-8 : (a : List ℕ) → length a ≡ 189 → rebuildF (1 ∷ 1 ∷ 0 ∷ 1 ∷ 1 ∷ []) a ≡ refused 13 1
   pub example-9 : verdict (designRules 7 3 brokenF) ≡ refused 5 11
   pub example-10 : (d : List ℕ) → verdict (designRules 51 8 d) ≡ refused 3 0
   pub example-11 : sizesAt (shelf 9) F ≡ refused 6 0

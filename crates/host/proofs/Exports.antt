@@ -37,6 +37,9 @@ use Rattle.auditing.proofs.Reasons.{audit-exact}
 use Rattle.planning.specs.Plan.{triplesOf, planRules}
 use Rattle.planning.specs.Reasons.{planRows}
 use Rattle.planning.proofs.Reasons.{plan-exact}
+use Rattle.rebuilding.specs.Rebuild.{restoredOf, rebuildRules}
+use Rattle.rebuilding.specs.Reasons.{rebuildRows}
+use Rattle.rebuilding.proofs.Reasons.{rebuild-exact}
 use Rattle.host.specs.declared.Answer.{Answer}
 use Rattle.host.specs.declared.SizesAnswer.{SizesAnswer}
 use Rattle.host.specs.declared.MapAnswer.{MapAnswer}
@@ -56,6 +59,7 @@ use Rattle.host.proofs.himzolven_read.Reads as read
 use Rattle.host.proofs.himzolven_write.Reads as write
 use Rattle.host.proofs.himzolven_audit.Reads as audit
 use Rattle.host.proofs.himzolven_plan.Reads as plan
+use Rattle.host.proofs.himzolven_rebuild.Reads as rebuild
 
 -- what each contract allows
 abbrev pub FillAllowed : Lfts 1 → ℕ → RefT (List ℕ) → Answer → RefT (List ℕ) → Type 0
@@ -103,6 +107,11 @@ abbrev pub PlanAllowed :
     Lfts 2 → (v k g u : ℕ) → RefT (List ℕ) → (disk : ℕ) → RefT (List ℕ) → CountAnswer → RefT (List ℕ) → Type 0
 PlanAllowed κs v k g u design disk list r last =
     plan.Post κs (v, (k, (g, (u, (design, (disk, (list, tt))))))) r (v, (k, (g, (u, (design, (disk, (last, tt)))))))
+
+abbrev pub RebuildAllowed :
+    Lfts 3 → (v k g u : ℕ) → (design array marks : RefT (List ℕ)) → CountAnswer → (array₁ marks₁ : RefT (List ℕ)) → Type 0
+RebuildAllowed κs v k g u design array marks r array₁ marks₁ =
+    rebuild.Post κs (v, (k, (g, (u, (design, (array, (marks, tt))))))) r (v, (k, (g, (u, (design, (array₁, (marks₁, tt)))))))
 
 -- what C is told
 
@@ -192,6 +201,17 @@ plan-told κs v k g u design disk list last r p =
     (lit< tt, (lit< tt, (lit< tt, (lit< tt, (lit< tt, (lit< tt, (lit< tt, tt))))))) (plan-exact (geometry v k g u) (now design) disk (length (now list)) count)
     (front-count answered r (p .0))
 
+pub rebuild-told :
+    (κs : Lfts 3) (v k g u : ℕ) (design array marks array₁ marks₁ : RefT (List ℕ)) (r : CountAnswer) →
+    RebuildAllowed κs v k g u design array marks r array₁ marks₁ →
+    Told (rebuildRows (geometry v k g u) (now design) (length (now array)) (now marks)) (r .refusal) (r .place)
+rebuild-told κs v k g u design array marks array₁ marks₁ r p =
+    let count = restoredOf (geometry v k g u) (now design) (now marks) in
+    let answered = answer (rebuildRules (geometry v k g u) (now design) (length (now array)) (now marks)) count in
+    front-tells (rebuildRows (geometry v k g u) (now design) (length (now array)) (now marks)) answered (r .refusal) (r .place)
+    (lit< tt, (lit< tt, (lit< tt, (lit< tt, (lit< tt, (lit< tt, (lit< tt, (lit< tt, tt))))))))
+    (rebuild-exact (geometry v k g u) (now design) (length (now array)) (now marks) count) (front-count answered r (p .0))
+
 -- two answers are one
 
 pub fill-two-results :
@@ -246,3 +266,10 @@ pub plan-two-results :
     (κs : Lfts 2) (v k g u : ℕ) (design : RefT (List ℕ)) (disk : ℕ) (list x y : RefT (List ℕ)) (r s : CountAnswer) →
     PlanAllowed κs v k g u design disk list r x → PlanAllowed κs v k g u design disk list s y → (r ≡ s) × (now x ≡ now y)
 plan-two-results κs v k g u design disk list x y r s p q = (p .0 ∙ sym (q .0), p .1 ∙ sym (q .1))
+
+pub rebuild-two-results :
+    (κs : Lfts 3) (v k g u : ℕ) (design array marks x y m n : RefT (List ℕ)) (r s : CountAnswer) →
+    RebuildAllowed κs v k g u design array marks r x m → RebuildAllowed κs v k g u design array marks s y n →
+    (r ≡ s) × (now x ≡ now y) × (now m ≡ now n)
+rebuild-two-results κs v k g u design array marks x y m n r s p q =
+    (p .0 ∙ sym (q .0), p .1 ∙ sym (q .1), p .2 ∙ sym (q .2))

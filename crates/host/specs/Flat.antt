@@ -93,7 +93,7 @@ abbrev pub flatAudit : Outcome Found → AuditAnswer
 flatAudit (accepted x) = record { refusal = 0; place = 0; bad = x .bad; lowest = x .lowest }
 flatAudit (refused n p) = record { refusal = n; place = p; bad = 0; lowest = 0 }
 
--- how many there are: triples of a plan
+-- how many there are: triples of a plan, units restored
 abbrev pub flatCount : Outcome ℕ → CountAnswer
 flatCount (accepted n) = record { refusal = 0; place = 0; count = n }
 flatCount (refused n p) = record { refusal = n; place = p; count = 0 }

@@ -17,6 +17,7 @@ ghost use Rattle.writing.specs.Writing.{writeRules};
 ghost use Rattle.finding.specs.Bad.{auditOf};
 ghost use Rattle.auditing.specs.Auditing.{auditRules, auditedOutcome};
 ghost use Rattle.planning.specs.Plan.{triplesOf, planned, planRules, plannedOutcome};
+ghost use Rattle.rebuilding.specs.Rebuild.{rebuiltOf, restoredOf, rebuildRules, rebuiltOutcome};
 ghost use Rattle.host.specs.Flat.{geometry, flatAnswer, flatSizes, flatMap, flatRole, flatRoleOf, flatAudit, flatCount};
 use address::Located;
 use address::Mapped;
@@ -27,6 +28,7 @@ use geometry::Geometry;
 use geometry::Unit;
 use geometry::UserUnit;
 use planning::Planned;
+use rebuilding::Rebuilt;
 use refusal::Checked;
 use sizes::Sized;
 
@@ -450,4 +452,51 @@ pub extern "C" fn himzolven_plan(
         (now (list .entry))) ⌝ }
 {
     planned_of(planning::plan(Geometry { v, k, g, u }, design, Disk(disk), list))
+}
+
+fn rebuilt_of(x: Rebuilt) -> CountAnswer
+    ensures { λ r. ⌜ r ≡ flatCount (rebuiltOutcome x) ⌝ }
+{
+    match x {
+        Rebuilt::Restored(n) => CountAnswer {
+            refusal: 0,
+            place: 0,
+            count: n,
+        },
+        Rebuilt::Refused(why) => CountAnswer {
+            refusal: why.number,
+            place: why.place,
+            count: 0,
+        },
+    }
+}
+
+// Gives the lost disks their bytes back, clears the marks and counts the units restored: refusals 2 to 8 and 13.
+#[no_mangle]
+pub extern "C" fn himzolven_rebuild(
+    v: u32,
+    k: u32,
+    g: u32,
+    u: u32,
+    design: &[u16],
+    array: &mut [u8],
+    marks: &mut [u8],
+) -> CountAnswer
+    ensures { λ r. ⌜ (r
+        ≡ flatCount
+        (answer (rebuildRules (geometry v k g u) (now (design .entry)) (length (now (array .entry))) (now (marks .entry)))
+        (restoredOf (geometry v k g u) (now (design .entry)) (now (marks .entry)))))
+        × (now (array .exit)
+        ≡ kept
+        (answer (rebuildRules (geometry v k g u) (now (design .entry)) (length (now (array .entry))) (now (marks .entry)))
+        (restoredOf (geometry v k g u) (now (design .entry)) (now (marks .entry))))
+        (rebuiltOf (geometry v k g u) (now (design .entry)) (now (marks .entry)) (now (array .entry)))
+        (now (array .entry)))
+        × (now (marks .exit)
+        ≡ kept
+        (answer (rebuildRules (geometry v k g u) (now (design .entry)) (length (now (array .entry))) (now (marks .entry)))
+        (restoredOf (geometry v k g u) (now (design .entry)) (now (marks .entry))))
+        (formattedMarks (geometry v k g u)) (now (marks .entry))) ⌝ }
+{
+    rebuilt_of(rebuilding::rebuild(Geometry { v, k, g, u }, design, array, marks))
 }
