@@ -36,10 +36,11 @@ brokenF = take 18 F ++ (1 ∷ 4 ∷ 6 ∷ [])
 abbrev pub smallest : Geometry
 smallest = record { v = 2; k = 2; g = 2; u = 1 }
 
--- what the rebuild answers for F with these bytes, where these are the marks of the first disks and no other disk is lost
-abbrev pub rebuildF : (first a : List ℕ) → Outcome ℕ
-rebuildF first a =
-    let marks = first ++ replicate 16 0 in answer (rebuildRules (shelf 3) F (length a) marks) (restoredOf (shelf 3) F marks)
+-- what the rebuild answers for F with an array of so many bytes, where these are the marks of the first disks and no other disk
+-- is lost
+abbrev pub rebuildF : (first : List ℕ) → (bytes : ℕ) → Outcome ℕ
+rebuildF first bytes =
+    answer (rebuildRules (shelf 3) F bytes (first ++ replicate 16 0)) (restoredOf (shelf 3) F (first ++ replicate 16 0))
 
 -- the table; a field is an example's number in 01
 pub record Examples : Type 0 where
@@ -52,9 +53,9 @@ pub record Examples : Type 0 where
   pub example-4 : mapF 83 ≡ four (place 15 7) (place 19 7) (place 16 8) (place 20 8)
   pub example-5 : mapF 84 ≡ refused 10 0
   -- for all bytes of the 21 disks
-  pub example-6 : (a : List ℕ) → length a ≡ 189 → rebuildF (0 ∷ 0 ∷ 0 ∷ 0 ∷ 0 ∷ []) a ≡ accepted 0
-  pub example-7 : (a : List ℕ) → length a ≡ 189 → rebuildF (1 ∷ 1 ∷ 1 ∷ 1 ∷ 0 ∷ []) a ≡ accepted 36
-  pub example-8 : (a : List ℕ) → length a ≡ 189 → rebuildF (1 ∷ 1 ∷ 0 ∷ 1 ∷ 1 ∷ []) a ≡ refused 13 1
+  pub example-6 : (a : List ℕ) → length a ≡ 189 → rebuildF (0 ∷ 0 ∷ 0 ∷ 0 ∷ 0 ∷ []) (length a) ≡ accepted 0
+  pub example-7 : (a : List ℕ) → length a ≡ 189 → rebuildF (1 ∷ 1 ∷ 1 ∷ 1 ∷ 0 ∷ []) (length a) ≡ accepted 36
+  pub example-8 : (a : List ℕ) → length a ≡ 189 → rebuildF (1 ∷ 1 ∷ 0 ∷ 1 ∷ 1 ∷ []) (length a) ≡ refused 13 1
   pub example-9 : verdict (designRules 7 3 brokenF) ≡ refused 5 11
   pub example-10 : (d : List ℕ) → verdict (designRules 51 8 d) ≡ refused 3 0
   pub example-11 : sizesAt (shelf 9) F ≡ refused 6 0
