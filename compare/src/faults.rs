@@ -15,9 +15,10 @@ pub fn run(seed: u64) -> Result<(), String> {
     println!("seed {seed}");
     set_hook(Box::new(|_| ()));
     let (pool, mut missed) = (pool::all(), Vec::new());
-    for (fault, find) in planted() {
-        match find(fault, seed, &pool) {
-            Some(call) => println!("found {fault:?} ({})\n  by {call}", fault.text()),
+    for (fault, ways) in planted() {
+        let calls: Option<Vec<String>> = ways.iter().map(|find| find(fault, seed, &pool)).collect();
+        match calls {
+            Some(calls) => println!("found {fault:?} ({})\n  by {}", fault.text(), calls.join("\n  by ")),
             None => missed.push(format!("{fault:?}")),
         }
     }
@@ -33,12 +34,17 @@ pub fn run(seed: u64) -> Result<(), String> {
 /// Looks for a fault, by the seed and the pool, and shows the call that finds it.
 type Find = fn(Fault, u64, &[Design]) -> Option<String>;
 
-/// The faults, each with the way in which it is looked for.
-fn planted() -> impl Iterator<Item = (Fault, Find)> {
-    let sought = |faults: &'static [Fault], find: Find| faults.iter().map(move |fault| (*fault, find));
-    let mapping = sought(Fault::MAPPING, find).chain(sought(Fault::PLAN, find));
-    let array = sought(Fault::ARRAY, sequences::find).chain(sought(Fault::REBUILD, losses::find));
-    mapping.chain(array).chain(sought(Fault::PRINTER, printed::find))
+/// Lists of faults, each with the ways in which its faults are looked for; each way must find them.
+const SOUGHT: [(&[Fault], &[Find]); 5] = [
+    (Fault::MAPPING, &[find]),
+    (Fault::PLAN, &[find]),
+    (Fault::ARRAY, &[sequences::find]),
+    (Fault::REBUILD, &[losses::find, sequences::find]),
+    (Fault::PRINTER, &[printed::find]),
+];
+
+fn planted() -> impl Iterator<Item = (Fault, &'static [Find])> {
+    SOUGHT.into_iter().flat_map(|(faults, ways)| faults.iter().map(move |fault| (*fault, ways)))
 }
 
 /// The first call on which the faulty program answers otherwise, or breaks down over a design it should have refused.

@@ -159,7 +159,8 @@ fn held(seed: u64, number: u64, pool: &[Design]) -> (Held, Random) {
     (Held::of(array, settled, &mut random), random)
 }
 
-/// Design F: with g = 3 every loss of up to five disks, with g = 5 and 7 every loss of two disks in each of two groups.
+/// Design F: with g = 3 every loss of up to five disks, and of a group and one disk of each other group; with g = 5 and 7
+/// every loss of two disks in each of two groups.
 fn of_design_f(seed: u64, model: &mut Model) -> Result<(), String> {
     let (mut random, mut counts) = (Random::new(seed), Vec::new());
     for (count, (all, right)) in OF_F.into_iter().enumerate() {
@@ -171,9 +172,14 @@ fn of_design_f(seed: u64, model: &mut Model) -> Result<(), String> {
         counts.push(format!("{rebuilt} of {all}"));
     }
     println!("F, g = 3, every loss of 0, 1, 2 .. 5 disks: {} rebuilt", counts.join(", "));
+    let losses: Vec<Vec<usize>> = (0..7 * 729).map(group_and_one_of_each).collect();
+    let rebuilt = each_of_f(3, &losses, &mut random, model)?;
+    println!("F, g = 3, a group and one disk of each other: {rebuilt} of {} rebuilt", losses.len());
+    if rebuilt != losses.len() as u64 {
+        return Err("a group and one disk of each other are rebuilt".into());
+    }
     for g in [5, 7] {
-        let pairs = choices(g, 2);
-        let groups = choices(7, 2);
+        let (groups, pairs) = (choices(7, 2), choices(g, 2));
         let both = |two: &[usize], a: &[usize], b: &[usize]| {
             vec![two[0] * g + a[0], two[0] * g + a[1], two[1] * g + b[0], two[1] * g + b[1]]
         };
@@ -184,6 +190,21 @@ fn of_design_f(seed: u64, model: &mut Model) -> Result<(), String> {
         println!("F, g = {g}, two disks in each of two groups: {rebuilt} of {} rebuilt", losses.len());
     }
     Ok(())
+}
+
+/// All disks of a group of F with g = 3 and one disk of each other, in one of 7·3^6 ways.
+fn group_and_one_of_each(number: usize) -> Vec<usize> {
+    let (whole, mut columns) = (number % 7, number / 7);
+    let mut lost = Vec::new();
+    for group in 0..7 {
+        if group == whole {
+            lost.extend([3 * group, 3 * group + 1, 3 * group + 2]);
+        } else {
+            lost.push(3 * group + columns % 3);
+            columns /= 3;
+        }
+    }
+    lost
 }
 
 /// All losses on F with right parities and with any bytes: how many were rebuilt, the same of both.

@@ -21,7 +21,7 @@ use steps::Steps;
 use taken::Taken;
 use watch::Watch;
 
-/// The number of sequences of a run, unless it is told another: of 25 to 35 calls each.
+/// The number of sequences of a run, unless it is told another: of 28 to 40 calls each.
 pub const COUNT: u64 = 4_000;
 
 /// How many sequences, beyond those that take the pool's designs in turn, are tried before a fault is looked for near the
