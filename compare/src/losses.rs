@@ -6,6 +6,7 @@ use crate::pool::{self, Design, F};
 use crate::random::Random;
 use crate::sequences::array::Array;
 use crate::sequences::call::{Call, Kind, Reply};
+use crate::sequences::crash::{self, At};
 use crate::sequences::pair::{Pair, Shelf, Step};
 use crate::sequences::steps::drawn;
 use crate::sequences::taken::Taken;
@@ -97,6 +98,7 @@ fn hex(bytes: &[u8]) -> String {
 /// What a run must show is asked of one that is not shorter than usual.
 pub fn run(seed: u64, from: u64, count: u64) -> Result<(), String> {
     println!("seed {seed}");
+    crash::watch();
     let (pool, mut model) = (pool::all(), Model::new(Plant::NONE));
     if count >= COUNT {
         of_design_f(seed, &mut model).map_err(|fault| format!("design F, seed {seed}: {fault}"))?;
@@ -141,6 +143,7 @@ fn random_losses(
     let (held, mut random) = held(seed, number, pool);
     taken.add(&held.array);
     for at in 0..EACH {
+        crash::at(At::Losses, number, at as u64);
         let lost = loss::drawn(held.array.given.v, held.array.given.g, &mut random);
         let reply = held.lose(&lost, &mut random, model).map_err(|fault| format!("loss {at}: {fault}"))?;
         seen.add(held.settled, &reply);
@@ -212,7 +215,8 @@ fn each_of_f(g: u32, losses: &[Vec<usize>], random: &mut Random, model: &mut Mod
     let array = || Array::of(Given { v: 7, k: 3, g, u: 1, list: F.to_vec() });
     let both = [true, false].map(|settled| Held::of(array(), settled, random));
     let mut seen = Seen::default();
-    for lost in losses {
+    for (number, lost) in losses.iter().enumerate() {
+        crash::at(At::DesignF, losses.len() as u64, number as u64);
         for held in &both {
             seen.add(held.settled, &held.lose(lost, random, model)?);
         }

@@ -3,7 +3,7 @@
 
 pub mod array;
 pub mod call;
-mod crash;
+pub mod crash;
 mod damage;
 mod limit;
 pub mod pair;
@@ -16,6 +16,7 @@ use crate::pool::{self, Design};
 use crate::tally::Tally;
 use call::Kind;
 use compare::model::{Fault, Model, Plant};
+use crash::At;
 use std::panic::{catch_unwind, AssertUnwindSafe};
 use steps::Steps;
 use taken::Taken;
@@ -65,7 +66,7 @@ fn sequence(
     watch.start(steps.settled);
     let mut call = 0;
     while let Some(step) = steps.next(pair.now()) {
-        crash::at(number, call);
+        crash::at(At::Sequence, number, call);
         let failed = |fault| format!("call {call}: {fault}\n  asked: {:#}", step.call);
         let answer = pair.step(&step, model).map_err(failed)?;
         tally.add(step.call.kind as usize, answer.refusal);

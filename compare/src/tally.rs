@@ -69,3 +69,14 @@ impl Tally {
         Ok(())
     }
 }
+
+#[test]
+fn a_run_needs_calls_enough_and_every_refusal() {
+    let mut tally = Tally::of([("map", &[10][..])]);
+    (0..CALLS - 1).for_each(|_| tally.add(0, 0));
+    assert!(tally.demands().is_err_and(|text| text.contains("calls")));
+    tally.add(0, 10);
+    assert!(tally.demands().is_err_and(|text| text.contains("refusal 10")));
+    (1..LEAST).for_each(|_| tally.add(0, 10));
+    assert_eq!(tally.demands(), Ok(()));
+}

@@ -167,3 +167,14 @@ fn changed(line: &[u8], random: &mut Random) -> Vec<u8> {
     }
     line
 }
+
+#[test]
+fn the_lines_have_every_answer_often() {
+    use compare::model::{Model, Plant};
+    let mut model = Model::new(Plant::NONE);
+    let printed: Vec<String> = all(1).iter().map(|line| model.print(line)).collect();
+    for answer in ["refused 1\n", "refused 6\n", "refused 9\n", "unread\n"] {
+        assert!(printed.iter().filter(|text| *text == answer).count() >= 40, "{answer}");
+    }
+    assert!(printed.iter().filter(|text| text.starts_with('0')).count() >= 150);
+}

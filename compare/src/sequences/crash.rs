@@ -2,11 +2,20 @@
 
 use std::sync::atomic::{AtomicU64, Ordering::Relaxed};
 
-/// In place of a sequence's number: the arrays near the limit.
-pub const LIMIT: u64 = u64::MAX;
+/// What a run is doing.
+#[derive(Clone, Copy)]
+pub enum At {
+    Sequence,
+    Limit,
+    DesignF,
+    Losses,
+}
 
-static SEQUENCE: AtomicU64 = AtomicU64::new(0);
-static CALL: AtomicU64 = AtomicU64::new(0);
+const NAMES: [&str; 4] =
+    ["sequence", "the arrays near the limit,", "the losses of design F, of a list of", "the losses of array"];
+
+/// What the run is doing, the number of the sequence or array, and that of the call.
+static WHERE: [AtomicU64; 3] = [const { AtomicU64::new(0) }; 3];
 
 extern "C" {
     fn signal(number: i32, handler: extern "C" fn(i32)) -> usize;
@@ -24,16 +33,12 @@ pub fn watch() {
 }
 
 /// A call begins.
-pub fn at(sequence: u64, call: u64) {
-    SEQUENCE.store(sequence, Relaxed);
-    CALL.store(call, Relaxed);
+pub fn at(at: At, number: u64, call: u64) {
+    WHERE.iter().zip([at as u64, number, call]).for_each(|(to, from)| to.store(from, Relaxed));
 }
 
-extern "C" fn struck(number: i32) {
-    let call = CALL.load(Relaxed);
-    match SEQUENCE.load(Relaxed) {
-        LIMIT => eprintln!("signal {number} near the limit, call {call}"),
-        sequence => eprintln!("signal {number} in sequence {sequence}, call {call}"),
-    }
+extern "C" fn struck(signal: i32) {
+    let [at, number, call] = [0, 1, 2].map(|which: usize| WHERE[which].load(Relaxed));
+    eprintln!("signal {signal} in {} {number}, call {call}", NAMES[at as usize]);
     std::process::exit(1);
 }

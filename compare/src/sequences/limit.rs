@@ -3,7 +3,7 @@
 
 use super::array::Array;
 use super::call::{Call, Kind};
-use super::crash;
+use super::crash::{self, At};
 use super::pair::{Pair, Shelf, Step};
 use crate::given::Given;
 use crate::lent::Lent;
@@ -68,7 +68,7 @@ pub fn run(pool: &[Design], model: &mut Model, mut made: impl FnMut(Kind, u32)) 
         let shelf = || Shelf { array: Lent::zeros(lent as usize, 5), marks: Lent::of(&marks, 0) };
         let mut pair = Pair::of(shelf(), shelf(), 0);
         for kind in calls {
-            crash::at(crash::LIMIT, number);
+            crash::at(At::Limit, 0, number);
             let step = step(kind, &mut array, lent as usize);
             let answer = pair.step(&step, model).map_err(|fault| format!("{fault}\n  asked: {}", step.call))?;
             made(kind, answer.refusal);
