@@ -76,6 +76,12 @@ module _ (G : Geometry) (ps : List ℕ) (apart : RegionsApart G ps) (a : List �
   unfolding entryBytes
   entry-length t e v = cell-length (cellNumbered G t (e / 2)) v (eqb (e % 2) 0)
 
+-- an entry is of a cell of the tuple
+pub logged-low :
+    {G : Geometry} {log : List ℕ} {count : ℕ} → LogIn G log count → (e j : ℕ) → e ≡ getD log j 0 → j < count
+    → e < 2 * tupleCellsOf G
+logged-low l e j read h = rw read (l .low j h)
+
 -- ---- the first i entries, oldest first
 module _ (G : Geometry) (d : List ℕ) (t : ℕ) (log : List ℕ) (count : ℕ) (a₀ : List ℕ) where
   pub record Replaying (a : List ℕ) (i : ℕ) : Type 0 where
@@ -90,7 +96,8 @@ module _ (G : Geometry) (d : List ℕ) (t : ℕ) (log : List ℕ) (count : ℕ) 
 -- the step that entry i names comes after those before it
 module _ (G : Geometry) (d : List ℕ) (t : ℕ) (log : List ℕ) (i : ℕ) (a₀ a : List ℕ) (e : ℕ) where
   next-entry :
-      a ≡ replayed G d t (logSteps G t log i) a₀ → e ≡ getD log i 0 → entryBytes G (regionStarts G d t) t e a ≡ stepBytes G d t (stepOf G t e) a
+      a ≡ replayed G d t (logSteps G t log i) a₀ → e ≡ getD log i 0
+      → entryBytes G (regionStarts G d t) t e a ≡ stepBytes G d t (stepOf G t e) a
       → entryBytes G (regionStarts G d t) t e a ≡ replayed G d t (logSteps G t log (i + 1)) a₀
   unfolding replayed logSteps
   next-entry f read s =
@@ -102,20 +109,18 @@ module _ {G : Geometry} {d : List ℕ} {t : ℕ} {log : List ℕ} {count : ℕ} 
   replaying-all h = let e : i ≡ count = omega (arith, f .low) in rw (← e) (f .is)
 
   module _ (L : Laid G d) (ht : t < tuplesOf G) (l : LogIn G log count) (h : i < count) (e : ℕ) (read : e ≡ getD log i 0) where
-    pub replaying-low : e < 2 * tupleCellsOf G
-    replaying-low = rw read (l .low i h)
-
     pub replaying-more :
         (ps : List ℕ) → ps ≡ regionStarts G d t → (b : List ℕ) → b ≡ entryBytes G ps t e a
         → Replaying G d t log count a₀ b (i + 1)
     replaying-more ps p b r = record { low = omega arith; long = kept ∙ f .long; is = one-more }
       where
         there : CellIn G (cellNumbered G t (e / 2))
-        there = the-cells-of-a-tuple-are-numbered G d L t ht .there (e / 2) (omega (arith, replaying-low))
+        there = the-cells-of-a-tuple-are-numbered G d L t ht .there (e / 2) (omega (arith, logged-low l e i read h))
 
         kept : length b ≡ length a
         kept = ap length r ∙ entry-length G ps (subst⁻¹ (RegionsApart G) p (regions-apart G d L t ht)) a (f .long) t e there
 
         one-more : b ≡ replayed G d t (logSteps G t log (i + 1)) a₀
         one-more =
-            r ∙ ap (λ (qs : List ℕ). entryBytes G qs t e a) p ∙ next-entry G d t log i a₀ a e (f .is) read (entry-step G d L t ht e replaying-low a)
+            r ∙ ap (λ (qs : List ℕ). entryBytes G qs t e a) p
+            ∙ next-entry G d t log i a₀ a e (f .is) read (entry-step G d L t ht e (logged-low l e i read h) a)

@@ -5,7 +5,7 @@ use native.Mathlib.Omega.{arith}
 use Rattle.leaves.proofs.Runs.{front-zeros}
 use Rattle.replaying.specs.Steps.{RegionsApart}
 use Rattle.replaying.proofs.Starts.{regions-apart}
-use Rattle.replaying.proofs.Entries.{Replaying, replaying-none, replaying-low, replaying-more, replaying-all}
+use Rattle.replaying.proofs.Entries.{logged-low, Replaying, replaying-none, replaying-more, replaying-all}
 use borrow.Author.Needs.{needs}
 use Rattle.replaying.proofs.replay.Statement.{statement}
 use Rattle.replaying.proofs.replay.Tie as tie
@@ -44,7 +44,7 @@ wide-requires : tie.Need-wide-requires Inv-loop μ-loop
 wide-requires c κs = search needs
 
 replay-step-requires : tie.Need-replay-step-requires Inv-loop μ-loop
-replay-step-requires c κs = let p = c .before .before .before .before .before .before .before .before .before .before .before .before .before .before .before .before .pre in let i = c .before .before .before .before .before .loop .inv in ((p .0 .sound, c .before .before .before .before .before .before .before .before .before .before .before .before .disk-bytes .ensures, subst⁻¹ (RegionsApart _) (c .before .before .before .before .before .before .before .before .region-starts .ensures) (regions-apart _ _ (p .0) _ (p .1 .0))), (p .1 .0, replaying-low i (p .0) (p .1 .0) (p .1 .1 .0) (c .before .before .before .before .loop-test .taken) _ (c .before .wide .ensures .0), i .long))
+replay-step-requires c κs = let p = c .before .before .before .before .before .before .before .before .before .before .before .before .before .before .before .before .pre in let i = c .before .before .before .before .before .loop .inv in ((p .0 .sound, c .before .before .before .before .before .before .before .before .before .before .before .before .disk-bytes .ensures, subst⁻¹ (RegionsApart _) (c .before .before .before .before .before .before .before .before .region-starts .ensures) (regions-apart _ _ (p .0) _ (p .1 .0))), (p .1 .0, logged-low (p .1 .1 .0) _ _ (c .before .wide .ensures .0) (omega (arith, c .before .before .before .before .loop-test .taken)), i .long))
 
 add-i : tie.Need-add-i Inv-loop μ-loop
 add-i c = search needs
@@ -53,13 +53,13 @@ loop-less : tie.Need-loop-less Inv-loop μ-loop
 loop-less c = search needs
 
 loop-again : tie.Need-loop-again Inv-loop μ-loop
-loop-again c = let p = c .before .before .before .before .before .before .before .before .before .before .before .before .before .before .before .before .before .before .before .pre in replaying-more (c .before .before .before .before .before .before .before .before .loop .inv) (p .0) (p .1 .0) (p .1 .1 .0) (c .before .before .before .before .before .before .before .loop-test .taken) _ (c .before .before .before .before .wide .ensures .0) _ (c .before .before .before .before .before .before .before .before .before .before .before .region-starts .ensures) _ (c .before .before .replay-step .ensures)
+loop-again c = let p = c .before .before .before .before .before .before .before .before .before .before .before .before .before .before .before .before .before .before .before .pre in replaying-more (c .before .before .before .before .before .before .before .before .loop .inv) (p .0) (p .1 .0) (p .1 .1 .0) (omega (arith, c .before .before .before .before .before .before .before .loop-test .taken)) _ (c .before .before .before .before .wide .ensures .0) _ (c .before .before .before .before .before .before .before .before .before .before .before .region-starts .ensures) _ (c .before .before .replay-step .ensures)
 
 same-length : tie.Need-same-length Inv-loop μ-loop
 same-length c = search needs
 
 returns : tie.Need-returns Inv-loop μ-loop
-returns c = replaying-all (c .before .before .loop .inv) (c .before .loop-test .left)
+returns c = replaying-all (c .before .before .loop .inv) (omega (arith, c .before .loop-test .left))
 
 pub replay-spec : {M : Type 1} → statement M
 replay-spec =
