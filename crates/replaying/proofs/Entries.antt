@@ -16,7 +16,8 @@ use Rattle.cells.specs.Cells.{labelOf, diagonalOf}
 use Rattle.cells.specs.Ranges.{CellIn}
 use Rattle.sets.specs.Starts.{regionStarts, labelStarts, diagonalStarts}
 use Rattle.reaching.specs.Reach.{tupleCellsOf, cellNumbered}
-use Rattle.reaching.specs.State.{stepOf, logSteps}
+use Rattle.reaching.specs.State.{State, stepOf, logSteps}
+use Rattle.reaching.specs.Logged.{Ended}
 use Rattle.reaching.proofs.Numbers.{the-cells-of-a-tuple-are-numbered}
 use Rattle.restoring.specs.Restore.{restoredIn, OneOf}
 use Rattle.restoring.proofs.Restored.{restored-length}
@@ -81,6 +82,12 @@ pub logged-low :
     {G : Geometry} {log : List ℕ} {count : ℕ} → LogIn G log count → (e j : ℕ) → e ≡ getD log j 0 → j < count
     → e < 2 * tupleCellsOf G
 logged-low l e j read h = rw read (l .low j h)
+
+-- the log that the passes over a tuple leave is such a log
+pub ended-log :
+    {G : Geometry} {d marks : List ℕ} {t : ℕ} {s : State} {complete : Bool} → Ended G d marks t s complete
+    → LogIn G (s .log) (s .count)
+ended-log w = record { room = w .room; low = w .low }
 
 -- ---- the first i entries, oldest first
 module _ (G : Geometry) (d : List ℕ) (t : ℕ) (log : List ℕ) (count : ℕ) (a₀ : List ℕ) where
