@@ -71,7 +71,7 @@ digits-append : (xs ys : List ℕ) → Digits xs → Digits ys → Digits (xs ++
 digits-append [] ys p q = q
 digits-append (x ∷ xs) ys p q = (p .0, digits-append xs ys (p .1) q)
 
-from-append : (n : ℕ) (xs ys : List ℕ) → decimalFrom n (xs ++ ys) ≡ decimalFrom (decimalFrom n xs) ys
+pub from-append : (n : ℕ) (xs ys : List ℕ) → decimalFrom n (xs ++ ys) ≡ decimalFrom (decimalFrom n xs) ys
 unfolding decimalFrom
 from-append n [] ys = refl
 from-append n (x ∷ xs) ys = from-append (n * 10 + (x - 48)) xs ys

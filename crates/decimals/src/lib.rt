@@ -21,7 +21,7 @@ fn put_decimal(out: &mut [u8], at: usize, n: u32) -> usize
 }
 
 // A number, and the byte after it.
-fn put_number(out: &mut [u8], at: usize, n: u32, by: u8) -> usize
+pub fn put_number(out: &mut [u8], at: usize, n: u32, by: u8) -> usize
     requires { ⌜ at + length (followed n by) ≤ length (now out) ⌝ }
     ensures { λ r. ⌜ (r ≡ at + length (followed n by)) × (now (out .exit) ≡ sets (now (out .entry)) at (followed n by)) ⌝ }
 {

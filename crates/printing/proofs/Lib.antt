@@ -1,0 +1,5 @@
+pub mod Designs
+pub mod Answers
+pub mod Texts
+pub mod Small
+pub mod Accepted
