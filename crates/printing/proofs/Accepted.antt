@@ -20,7 +20,7 @@ use Rattle.decimals.specs.Decimal.{linesOf}
 use Rattle.lines.specs.declared.Question.{Question}
 use Rattle.lines.specs.declared.Parsed.the-variants.{Asked, Unread}
 use Rattle.lines.specs.Line.{parsed}
-use Rattle.printing.specs.Shown.{shelf, room, showRules, answered, refusedText, answerText, unreadText, shown}
+use Rattle.printing.specs.Shown.{shelf, room, showRules, answered, answerText, unreadText, shown}
 use Rattle.printing.proofs.Texts.{Front}
 use Rattle.printing.proofs.Small.{plan-room}
 
@@ -36,7 +36,7 @@ module _ (q : Question) where
 
   -- a refusal
   pub refused-text :
-      (n p : ℕ) → counted ≡ refused n p → (old : List ℕ) (r : ℕ) (last : List ℕ) → Front (refusedText n) old r last →
+      (n p : ℕ) → counted ≡ refused n p → (old : List ℕ) (r : ℕ) (last : List ℕ) → Front (answerText (refused n p)) old r last →
       Front (answerText (answered q)) old r last
   refused-text n p e old r last f = rw (refused-at (showRules q) (triplesOf (shelf q)) plan n p e) f
 

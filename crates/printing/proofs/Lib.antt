@@ -3,3 +3,8 @@ pub mod Answers
 pub mod Texts
 pub mod Small
 pub mod Accepted
+pub mod Refusals
+pub mod Differ
+pub mod Theorems
+pub mod Example
+pub mod TwoResults
