@@ -4,7 +4,7 @@ use mathlib.Core.Path.{_≡_, refl, sym, ap, _∙_}
 use mathlib.Core.List.{List, [], _∷_, _++_}
 use native.Mathlib.Omega.{arith}
 use lib.Dec.{leb, ltb}
-use lib.ListN.{length, take, drop}
+use lib.ListN.{length, take, drop, length-append}
 use lib.Seq.{take-at}
 use borrow.Author.Tests.{leb-false, ltb-false}
 use Rattle.refusal.specs.Refusal.{Outcome, refused, accepted, answer, kept}
@@ -95,3 +95,7 @@ module _ (line old : List ℕ) (r : ℕ) (last : List ℕ) where
   pub asked-text : (q : Question) → parsed line ≡ Asked q → Front (answerText (answered q)) old r last → Front (shown line) old r last
   unfolding shown
   asked-text q e f = rw e f
+
+  -- what is printed lies within the bytes
+  pub shown-inside : Front (shown line) old r last → r ≤ length last
+  shown-inside f = rw (f .1, length-append (shown line) (drop r old)) (omega (arith, f .0))
