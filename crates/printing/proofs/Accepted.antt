@@ -14,8 +14,9 @@ use Rattle.design.specs.Design.{Laid}
 use Rattle.sizes.specs.Sizes.{sizesRules}
 use Rattle.sizes.proofs.Reasons.{accepted-is-laid}
 use Rattle.held.specs.Held.{heldDesign, fillRules}
-use Rattle.planning.specs.Plan.{planOf, triplesOf, planned, planRules}
-use Rattle.planning.proofs.Lengths.{plan-length}
+use Rattle.sources.specs.Plan.{planOf}
+use Rattle.planning.specs.Plan.{triplesOf, planned, planRules}
+use Rattle.planning.proofs.Bounds.{plan-length}
 use Rattle.decimals.specs.Decimal.{linesOf}
 use Rattle.lines.specs.declared.Question.{Question}
 use Rattle.lines.specs.declared.Parsed.the-variants.{Asked, Unread}

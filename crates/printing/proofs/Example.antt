@@ -10,7 +10,8 @@ use Rattle.held.specs.Held.{setFor, shifted, heldGroup, heldDesign, fillRules}
 use Rattle.cells.specs.Cells.{labelColumn, labelAt, diagonalColumn, diagonalAt}
 use Rattle.layout.specs.Regions.{partOf, tupleOf, positionOf}
 use Rattle.layout.specs.Places.{placeOf, cellAt}
-use Rattle.planning.specs.Plan.{listsOf, unitPlan, planBelow, planOf, triplesOf, planRules}
+use Rattle.sources.specs.Plan.{listsOf, unitPlan, planBelow, planOf}
+use Rattle.planning.specs.Plan.{triplesOf, planRules}
 use Rattle.decimals.specs.Decimal.{isDigit, decimalFrom, digitsBelow, followed, lineOf, linesOf}
 use Rattle.lines.specs.Line.{front, field, past, parsed}
 use Rattle.printing.specs.Shown.{showRules, refusedText, shown}

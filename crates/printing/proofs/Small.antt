@@ -22,7 +22,7 @@ use Rattle.cells.proofs.Turns.{labelAt-lt, diagonalAt-lt}
 use Rattle.cells.proofs.Sets.{outer-member-in, inner-member-in}
 use Rattle.layout.specs.Places.{cellAt}
 use Rattle.layout.proofs.Places.{place-in, cell-at-in}
-use Rattle.planning.specs.Plan.{listsOf, triple, others, unitPlan, planBelow, planOf}
+use Rattle.sources.specs.Plan.{listsOf, triple, others, unitPlan, planBelow, planOf}
 use Rattle.decimals.specs.Decimal.{linesOf}
 use Rattle.decimals.proofs.Theorems.{room-for-lines}
 

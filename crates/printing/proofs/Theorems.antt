@@ -12,7 +12,7 @@ use Rattle.held.specs.Held.{table, setFor, heldDesign}
 use Rattle.held.specs.Reasons.{HeldSet}
 use Rattle.held.proofs.Table.{held-found}
 use Rattle.sizes.specs.Reasons.{Allowed}
-use Rattle.planning.specs.Plan.{planOf}
+use Rattle.sources.specs.Plan.{planOf}
 use Rattle.decimals.specs.Decimal.{linesOf}
 use Rattle.lines.specs.declared.Question.{Question}
 use Rattle.lines.specs.declared.Parsed.{Parsed}

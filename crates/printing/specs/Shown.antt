@@ -5,7 +5,8 @@ use lib.ListN.{length}
 use Rattle.refusal.specs.Refusal.{Rule, Outcome, refused, accepted, answer}
 use Rattle.geometry.specs.declared.Geometry.{Geometry}
 use Rattle.held.specs.Held.{setFor, heldDesign, fillRules}
-use Rattle.planning.specs.Plan.{planOf, planRules}
+use Rattle.sources.specs.Plan.{planOf}
+use Rattle.planning.specs.Plan.{planRules}
 use Rattle.decimals.specs.Decimal.{followed, space, lineEnd, linesOf}
 use Rattle.lines.specs.declared.Question.{Question}
 use Rattle.lines.specs.declared.Parsed.{Parsed}

@@ -9,7 +9,7 @@ use Rattle.refusal.specs.Due.{Row, row, Due}
 use Rattle.held.specs.Held.{table, heldDesign}
 use Rattle.held.specs.Reasons.{HeldSet, NoSet}
 use Rattle.sizes.specs.Reasons.{Allowed}
-use Rattle.planning.specs.Plan.{planOf}
+use Rattle.sources.specs.Plan.{planOf}
 use Rattle.decimals.specs.Decimal.{linesOf}
 use Rattle.lines.specs.Theorems.{Form}
 use Rattle.printing.specs.Shown.{refusedText, unreadText, shown}
