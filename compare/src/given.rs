@@ -5,7 +5,7 @@ use std::fmt;
 
 /// v, k, g, u and the design, tested or not. A call that takes fewer passes those it takes; of fill `list` is the list to
 /// fill.
-#[derive(Clone, Debug, Default)]
+#[derive(Clone, Debug, Default, PartialEq)]
 pub struct Given {
     pub v: u32,
     pub k: u32,

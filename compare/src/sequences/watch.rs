@@ -24,8 +24,8 @@ impl Watch {
         self.found = settled.then_some(CONSISTENT);
     }
 
-    /// Looks at the array after a step. A spoiled design may be another design, with rows in another order, by which a
-    /// write or rebuild is accepted as well: then nothing follows for the sets of the given one.
+    /// Looks at the array after a step. A spoiled design may be another design, with rows in another order, and a spoiled
+    /// length may fit a spoiled u, by which a call is accepted as well: then nothing follows for the sets of the given one.
     pub fn after(
         &mut self,
         step: &Step,
@@ -35,13 +35,13 @@ impl Watch {
         given: &Given,
     ) -> Result<(), String> {
         let accepted = answer.refusal == 0;
-        let same = step.call.given.list == given.list;
+        let same = step.call.given == *given && step.call.array == now.array.list().len();
         let rebuilt = accepted && step.call.kind == Kind::Rebuild;
         if !step.damage.is_empty() && !step.repair && !rebuilt {
             self.found = None;
         }
         let before = match step.call.kind {
-            Kind::Format if accepted => Some(CONSISTENT),
+            Kind::Format if accepted => same.then_some(CONSISTENT),
             Kind::Write if accepted => self.found.filter(|_| same),
             Kind::Rebuild if accepted => self.found.filter(|found| same && *found == CONSISTENT),
             Kind::Audit if accepted => {
