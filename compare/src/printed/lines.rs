@@ -45,89 +45,23 @@ fn refused() -> Vec<[u32; 3]> {
     refused
 }
 
-/// Lines of another form, and some near them that are read. Each also with a line end.
+/// Lines of another form and some near them that are read, parted by bars: words and spaces; other bytes about and between
+/// digits; blanks, CR and NUL; bytes beyond ASCII; ten digits and leading zeros.
+const FORMS: [&[u8]; 6] = [
+    b"|7|7 3|7 3 |7 | |  |   | 3 9|7  9|7 3 9 |7 3 9  | 7 3 9|  7 3 9|7  3 9|7 3  9|7   3 9|7 3 9 1|7 3 9 1 |7 3 9 x",
+    b"7 3 9x|x7 3 9|7x 3 9|7 x 9|+7 3 9|7 +3 9|7 3 +9|-7 3 9|7 -3 9|7 3 -9|7 3 -0|7,3,9|7, 3, 9|7.0 3 9|7 3 9.|7e0 3 9",
+    b"0x7 3 9|0x7 0x3 0x9|7 3 9_|1_3 5 9|\"7 3 9\"|7 3 /|7 3 :|v g disk|unread|7 3 9\x1A|7 3 nine|seven three nine",
+    b"7\t3\t9|7\t3 9|7 3\t9|\t7 3 9|7 3 9\t|7\x0B3 9|7\x0C3 9|7 3 9\r|\r7 3 9|7\r3 9|7 3 9\0|\x007 3 9|7\x003 9|7 3\0 9|\0",
+    b"7 3 \xD9\xA9|\xEF\xBB\xBF7 3 9|7\xC2\xA03 9|\xFF|7 3 9\xFF|7 3 \xEF\xBC\x99|7 3 \xB9|\xB27 3 9|7 3 \xB0\xB9",
+    b"0000000007 3 9|7 0000000003 9|7 3 0000000009|4294967303 3 9|7 3 4294967305|7 4294967299 9|18446744073709551623 3 9|\
+      7 3 99999999999999999999|007 03 009|000000007 000000003 000000009|000000000 000000000 000000000|7 3 00|00 3 0",
+];
+
+/// The forms without and with a line end, and what may come behind a good line.
 fn malformed() -> Vec<Vec<u8>> {
-    let lines: [&[u8]; 77] = [
-        b"",
-        b"7",
-        b"7 3",
-        b"7 3 ",
-        b"7 ",
-        b" ",
-        b"  ",
-        b"   ",
-        b" 3 9",
-        b"7  9",
-        b"7 3 9 ",
-        b"7 3 9  ",
-        b" 7 3 9",
-        b"  7 3 9",
-        b"7  3 9",
-        b"7 3  9",
-        b"7   3 9",
-        b"7 3 9 1",
-        b"7 3 9 1 ",
-        b"7 3 9 x",
-        b"7 3 9x",
-        b"x7 3 9",
-        b"7x 3 9",
-        b"7 x 9",
-        b"7\t3\t9",
-        b"7\t3 9",
-        b"7 3\t9",
-        b"\t7 3 9",
-        b"7 3 9\t",
-        b"7\x0B3 9",
-        b"7\x0C3 9",
-        b"+7 3 9",
-        b"7 +3 9",
-        b"7 3 +9",
-        b"-7 3 9",
-        b"7 -3 9",
-        b"7 3 -9",
-        b"7 3 -0",
-        b"7,3,9",
-        b"7, 3, 9",
-        b"7.0 3 9",
-        b"7 3 9.",
-        b"7e0 3 9",
-        b"0x7 3 9",
-        b"0x7 0x3 0x9",
-        b"7 3 9_",
-        b"1_3 5 9",
-        b"\"7 3 9\"",
-        b"7 3 9\r",
-        b"\r7 3 9",
-        b"7\r3 9",
-        b"7 3 9\0",
-        b"\x007 3 9",
-        b"7\x003 9",
-        b"7 3\x00 9",
-        b"\0",
-        b"7 3 \xD9\xA9",
-        b"\xEF\xBB\xBF7 3 9",
-        b"7\xC2\xA03 9",
-        b"\xFF",
-        b"7 3 9\xFF",
-        b"7 3 \xEF\xBC\x99",
-        b"7 3 \xB9",
-        b"7 3 9\x1A",
-        b"7 3 /",
-        b"7 3 :",
-        b"v g disk",
-        b"unread",
-        b"0000000007 3 9",
-        b"7 0000000003 9",
-        b"7 3 0000000009",
-        b"4294967303 3 9",
-        b"7 3 4294967305",
-        b"007 03 009",
-        b"000000007 000000003 000000009",
-        b"000000000 000000000 000000000",
-        b"7 3 00",
-    ];
-    let ended = |end: &'static [u8]| lines.map(|line| [line, end].concat());
-    let mut all: Vec<Vec<u8>> = [ended(b""), ended(b"\n")].concat();
+    let lines = || FORMS.iter().flat_map(|forms| forms.split(|byte| *byte == b'|'));
+    let mut all: Vec<Vec<u8>> = lines().map(<[u8]>::to_vec).collect();
+    all.extend(lines().map(|line| [line, b"\n"].concat()));
     let behind: [&[u8]; 9] =
         [b"\r\n", b"\n\n", b"\n\r", b"\n\0", b"\n ", b"\n7 3 9", b"\n7 3 9\n", b"\nx", b"\r\n\r\n"];
     all.extend(behind.map(|end| [b"7 3 9", end].concat()));
