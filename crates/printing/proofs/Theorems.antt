@@ -2,9 +2,11 @@
 use Prim.Native.Nat.{ℕ, _*_, _≤_, _<_}
 use mathlib.Core.Path.{_≡_, refl, sym, ap, _∙_}
 use mathlib.Core.Logic.{_⊎_, inl, inr}
-use mathlib.Core.List.{List, [], _∷_}
+use mathlib.Core.List.{List, [], _∷_, _++_}
 use native.Mathlib.Omega.{arith}
-use lib.ListN.{length}
+use native.Mathlib.Decide.{decLt}
+use lib.ListN.{length, take, length-append}
+use lib.Seq.{take-all, length-take-le}
 use Rattle.refusal.specs.Refusal.{Outcome, refused, accepted, answer}
 use Rattle.refusal.specs.Due.{Due, NoneDue}
 use Rattle.refusal.proofs.Answer.{accepted-value}
@@ -13,7 +15,7 @@ use Rattle.held.specs.Reasons.{HeldSet}
 use Rattle.held.proofs.Table.{held-found}
 use Rattle.sizes.specs.Reasons.{Allowed}
 use Rattle.sources.specs.Plan.{planOf}
-use Rattle.decimals.specs.Decimal.{linesOf}
+use Rattle.decimals.specs.Decimal.{space, lineEnd, linesOf}
 use Rattle.lines.specs.declared.Question.{Question}
 use Rattle.lines.specs.declared.Parsed.{Parsed}
 use Rattle.lines.specs.declared.Parsed.the-variants.{Asked, Unread}
@@ -21,7 +23,7 @@ use Rattle.lines.specs.Line.{question, parsed}
 use Rattle.lines.specs.Theorems.{Form}
 use Rattle.lines.proofs.Forms.{has-form, form-read, no-form-unread}
 use Rattle.printing.specs.Shown.{shelf, showRules, answered, answerText, refusedText, unreadText, shown}
-use Rattle.printing.specs.Theorems.{NotAllowed, showRows, A-refusal-is-printed-exactly-if-due, Only-1-6-and-9-are-printed, Else-the-plan-is-printed, Unread-is-printed-exactly-for-another-form}
+use Rattle.printing.specs.Theorems.{NotAllowed, showRows, A-refusal-is-printed-exactly-if-due, Only-1-6-and-9-are-printed, Else-the-plan-is-printed, Unread-is-printed-exactly-for-another-form, The-first-31-bytes-are-enough}
 use Rattle.printing.proofs.Refusals.{show-exact}
 use Rattle.printing.proofs.Differ.{refused-number, refused-unread, lines-refused, lines-unread}
 
@@ -114,3 +116,32 @@ else-the-plan-is-printed line v g disk F s held allowed low = plan-shown line v 
 pub unread-is-printed-exactly-for-another-form : Unread-is-printed-exactly-for-another-form
 unread-is-printed-exactly-for-another-form line =
     (λ e v g disk F. never-unread line v g disk F e, λ none. unread-shown line (no-form-unread line none))
+
+-- a line of the form has 9+1+9+1+9+1 bytes at most
+form-short : (line : List ℕ) (v g disk : ℕ) → Form line v g disk → length line ≤ 30
+form-short line v g disk F =
+    let end : length (F .e) ≤ 1 = short (F .e) (F .end) in
+    rw (
+      F .written,
+      length-append (F .a ++ space ∷ F .b ++ space ∷ F .c) (F .e),
+      length-append (F .a ++ space ∷ F .b) (space ∷ F .c),
+      length-append (F .a) (space ∷ F .b),
+    )
+    (omega (arith, end, F .reads-v .nine, F .reads-g .nine, F .reads-disk .nine))
+  where
+    short : (e : List ℕ) → (e ≡ []) ⊎ (e ≡ lineEnd ∷ []) → length e ≤ 1
+    short e (inl h) = rw h (omega arith)
+    short e (inr h) = rw h (omega arith)
+
+long-unread : (line : List ℕ) → 30 < length line → shown line ≡ unreadText
+long-unread line h =
+    unread-shown line (no-form-unread line (λ v g disk F. let s = form-short line v g disk F in omega arith))
+
+pub the-first-31-bytes-are-enough : The-first-31-bytes-are-enough
+the-first-31-bytes-are-enough input = go (decLt 31 (length input))
+  where
+    go : Dec (31 < length input) → shown (take 31 input) ≡ shown input
+    go (yes h) =
+        let l : length (take 31 input) ≡ 31 = length-take-le 31 input (omega arith) in
+        long-unread (take 31 input) (omega arith) ∙ sym (long-unread input (omega arith))
+    go (no h) = ap shown (take-all 31 input (omega arith))

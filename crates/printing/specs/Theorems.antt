@@ -4,7 +4,7 @@ use Prim.Native.Nat.{ℕ, _*_, _≤_, _<_}
 use mathlib.Core.Path.{_≡_}
 use mathlib.Core.Logic.{_⊎_, _↔_}
 use mathlib.Core.List.{List, [], _∷_}
-use lib.ListN.{length}
+use lib.ListN.{length, take}
 use Rattle.refusal.specs.Due.{Row, row, Due}
 use Rattle.held.specs.Held.{table, heldDesign}
 use Rattle.held.specs.Reasons.{HeldSet, NoSet}
@@ -45,3 +45,7 @@ Else-the-plan-is-printed =
 abbrev pub Unread-is-printed-exactly-for-another-form : Type 0
 Unread-is-printed-exactly-for-another-form =
     (line : List ℕ) → (shown line ≡ unreadText) ↔ ((v g disk : ℕ) → Form line v g disk → ⊥)
+
+-- the printer reads 31 bytes: what comes after them changes nothing
+abbrev pub The-first-31-bytes-are-enough : Type 0
+The-first-31-bytes-are-enough = (input : List ℕ) → shown (take 31 input) ≡ shown input
