@@ -1,7 +1,7 @@
 -- The answer of the printer's plan from those of the two calls it makes. Assumes nothing.
 use Prim.Native.Nat.{ℕ}
 use mathlib.Core.Path.{_≡_, refl, sym, ap, _∙_}
-use mathlib.Core.List.{List, _++_}
+use mathlib.Core.List.{List}
 use lib.ListN.{length}
 use Rattle.refusal.specs.Refusal.{Outcome, refused, accepted, answer, verdict, kept}
 use Rattle.refusal.proofs.Answer.{skip, stop}

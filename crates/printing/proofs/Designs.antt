@@ -1,6 +1,6 @@
 -- How long the design of a held v is, and how large its set: what the printer's lists have room for. Assumes nothing.
 use Prim.Native.Nat.{ℕ, _*_, _≤_}
-use mathlib.Core.Path.{_≡_, refl, sym, ap, _∙_}
+use mathlib.Core.Path.{_≡_, sym, ap, _∙_}
 use mathlib.Core.List.{List}
 use native.Mathlib.Nat.{mul-zero, mul-le-mul}
 use native.Mathlib.Decide.{ℕ-discrete}

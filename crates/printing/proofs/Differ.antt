@@ -1,10 +1,10 @@
 -- The texts tell the answers apart: that of a refusal its number, and a refusal, a plan and an unread line. Assumes nothing.
 use Prim.Native.Nat.{ℕ, _+_, _-_, _*_, _≤_}
-use mathlib.Core.Path.{_≡_, refl, sym, ap, _∙_}
+use mathlib.Core.Path.{_≡_, refl, ap, _∙_}
 use mathlib.Core.List.{List, [], _∷_, _++_, append-assoc}
 use native.Mathlib.Omega.{arith}
 use lib.ListN.{length, getD, drop}
-use Rattle.decimals.specs.Decimal.{Digits, decimal, decimalOf, followed, space, lineEnd, lineOf, linesOf}
+use Rattle.decimals.specs.Decimal.{Digits, decimal, decimalOf, followed, lineEnd, lineOf, linesOf}
 use Rattle.decimals.proofs.Laws.{digit-bounds, from-append, from-cons, from-none, reads-as}
 use Rattle.printing.specs.Shown.{refusedText, unreadText}
 
@@ -49,4 +49,4 @@ pub lines-refused : (plan : List ℕ) (n : ℕ) → linesOf plan ≡ refusedText
 lines-refused plan n e = let f = ap lead e in omega (arith, refused-lead n, f, lines-lead plan)
 
 pub lines-unread : (plan : List ℕ) → linesOf plan ≡ unreadText → ⊥
-lines-unread plan e = let f : lead (linesOf plan) ≡ 117 = ap lead e in omega (arith, f, lines-lead plan)
+lines-unread plan e = let f = ap lead e in omega (arith, f, lines-lead plan)

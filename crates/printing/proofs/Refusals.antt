@@ -1,6 +1,6 @@
 -- Of a held design 2 to 5 are never due, nor is 14 of the printer's list: 1, 6 and 9 are left, exactly as 01 tables them.
 -- Assumes nothing.
-use Prim.Native.Nat.{ℕ, _-_, _*_, _≤_, _<_}
+use Prim.Native.Nat.{ℕ, _-_, _*_, _≤_}
 use mathlib.Core.Path.{_≡_, refl, sym, ap, _∙_}
 use mathlib.Core.Bool.{true, false, not}
 use mathlib.Core.Logic.{_⊎_, inl, inr}
@@ -15,18 +15,18 @@ use Rattle.counting.proofs.Bools.{bool-either, not-is-true, not-is-false}
 use Rattle.counting.proofs.Lists.{listOf-length}
 use Rattle.refusal.specs.Refusal.{Rule, rule, Outcome, accepted, unless, answer, verdict}
 use Rattle.refusal.specs.Due.{Row, row, Exact}
-use Rattle.refusal.proofs.Answer.{Quiet, first, next, skip, stop, accepted-quiet, quiet-accepted}
+use Rattle.refusal.proofs.Answer.{Quiet, first, next, skip, stop, accepted-quiet}
 use Rattle.refusal.proofs.Exactness.{Fit, Fits, zero-fit, fit-words, fit-silent, silent-fit, exact}
 use Rattle.geometry.specs.Geometry.{rOf, bOf, partsOf, disksOf, sizesAllowed}
 use Rattle.geometry.proofs.Laws.{bk-vr}
 use Rattle.checking.specs.Rules.{designRules}
 use Rattle.checking.specs.Reasons.{designRows}
 use Rattle.sizes.specs.Sizes.{sizesRules}
-use Rattle.sizes.specs.Reasons.{Allowed, sizesRows}
+use Rattle.sizes.specs.Reasons.{Allowed}
 use Rattle.sizes.proofs.Rules.{six, fine}
 use Rattle.sizes.proofs.Reasons.{sizes-fits, accepted-is-laid}
-use Rattle.held.specs.Held.{table, setFor, heldDesign, fillRules}
-use Rattle.held.specs.Reasons.{HeldSet, NoSet}
+use Rattle.held.specs.Held.{setFor, heldDesign, fillRules}
+use Rattle.held.specs.Reasons.{NoSet}
 use Rattle.held.proofs.Table.{held-difference, held-found, set-held}
 use Rattle.held.proofs.Difference.{held-accepted}
 use Rattle.held.proofs.Reasons.{fill-fits}

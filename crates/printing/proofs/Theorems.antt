@@ -7,10 +7,10 @@ use native.Mathlib.Omega.{arith}
 use native.Mathlib.Decide.{decLt}
 use lib.ListN.{length, take, length-append}
 use lib.Seq.{take-all, length-take-le}
-use Rattle.refusal.specs.Refusal.{Outcome, refused, accepted, answer}
+use Rattle.refusal.specs.Refusal.{Outcome, refused, accepted}
 use Rattle.refusal.specs.Due.{Due, NoneDue}
 use Rattle.refusal.proofs.Answer.{accepted-value}
-use Rattle.held.specs.Held.{table, setFor, heldDesign}
+use Rattle.held.specs.Held.{table, heldDesign}
 use Rattle.held.specs.Reasons.{HeldSet}
 use Rattle.held.proofs.Table.{held-found}
 use Rattle.sizes.specs.Reasons.{Allowed}

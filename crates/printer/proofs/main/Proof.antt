@@ -1,6 +1,5 @@
 -- `printer::main` meets its contract: the text that is written lies within the bytes. Assumes nothing.
-use mathlib.Core.Path.{_≡_, sym}
-use native.Mathlib.Omega.{arith}
+use mathlib.Core.Path.{sym}
 use lib.Seq.{length-take-le}
 use borrow.Author.Needs.{needs}
 use Rattle.printing.proofs.Accepted.{shown-inside}

@@ -1,8 +1,7 @@
 -- `printing::plan_asked` meets its contract: the list of its own is as long as the held design. Assumes nothing.
-use Prim.Native.Nat.{ℕ, _*_, _≤_}
-use mathlib.Core.Path.{_≡_, refl, sym, ap, _∙_}
+use Prim.Native.Nat.{ℕ, _*_}
+use mathlib.Core.Path.{sym, ap, _∙_}
 use native.Mathlib.Omega.{arith}
-use lib.ListN.{length}
 use borrow.Author.Needs.{needs}
 use Rattle.printing.proofs.Designs.{design-length, design-room, part-long}
 use Rattle.printing.proofs.plan_asked.Statement.{statement}

@@ -1,5 +1,5 @@
 -- `printing::plan_held` meets its contract: the refusal of the filling, or the plan's answer. Assumes nothing.
-use mathlib.Core.Path.{_≡_, refl, sym, ap, _∙_}
+use mathlib.Core.Path.{sym, ap, _∙_}
 use native.Mathlib.Omega.{arith}
 use borrow.Author.Needs.{needs}
 use Rattle.refusal.specs.Refusal.{checkedOutcome}

@@ -1,5 +1,5 @@
 -- `printing::show` meets its contract, by what the line asks. Assumes nothing.
-use mathlib.Core.Path.{_≡_, sym, _∙_}
+use mathlib.Core.Path.{sym, _∙_}
 use borrow.Author.Needs.{needs}
 use Rattle.printing.proofs.Accepted.{unread-text, asked-text}
 use Rattle.printing.proofs.show.Statement.{statement}
