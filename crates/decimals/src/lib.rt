@@ -20,7 +20,7 @@ fn put_decimal(out: &mut [u8], at: usize, n: u32) -> usize
     end + 1
 }
 
-// A number, and the byte after it.
+// Writes a number, and the byte after it, from `at` on. Returns where they end; the rest of `out` stays.
 pub fn put_number(out: &mut [u8], at: usize, n: u32, by: u8) -> usize
     requires { ⌜ at + length (followed n by) ≤ length (now out) ⌝ }
     ensures { λ r. ⌜ (r ≡ at + length (followed n by)) × (now (out .exit) ≡ sets (now (out .entry)) at (followed n by)) ⌝ }

@@ -36,6 +36,20 @@ fn put_refused(number: u32, text: &mut [u8]) -> usize
     decimals::put_number(text, at, number, b'\n')
 }
 
+// Zeros for the design of a held v: its b·k numbers are 910 at most.
+fn design_zeros() -> [u16; 910]
+    ensures { λ r. ⌜ 910 ≡ length r ⌝ }
+{
+    [0; 910]
+}
+
+// Zeros for the plan: its numbers are 3600 at most.
+fn plan_zeros() -> [u32; 3600]
+    ensures { λ r. ⌜ room ≡ length r ⌝ }
+{
+    [0; 3600]
+}
+
 // "Takes the held set of v and u = 1" (01): the plan of the held design, which is put into the lent list, or the refusal.
 fn plan_held(q: Question, k: usize, design: &mut [u16], list: &mut [u32]) -> Planned
     requires { ⌜ (k ≡ length (setFor (q .v))) × (length (now design) ≡ length (heldDesign (q .v))) × (length (now list) ≡ room) ⌝ }
@@ -55,20 +69,6 @@ fn plan_held(q: Question, k: usize, design: &mut [u16], list: &mut [u32]) -> Pla
         u: 1,
     };
     planning::plan(geometry, design, Disk(q.disk), list)
-}
-
-// Zeros for the design of a held v: its b·k numbers are 910 at most.
-fn design_zeros() -> [u16; 910]
-    ensures { λ r. ⌜ 910 ≡ length r ⌝ }
-{
-    [0; 910]
-}
-
-// Zeros for the plan.
-fn plan_zeros() -> [u32; 3600]
-    ensures { λ r. ⌜ room ≡ length r ⌝ }
-{
-    [0; 3600]
 }
 
 // The same with a list of its own for the design: b·k numbers, which are v·k, and none where no set is held.
