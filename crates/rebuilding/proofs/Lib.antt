@@ -3,6 +3,7 @@ pub mod Answers
 pub mod Bytes
 pub mod ComeBack
 pub mod Count
+pub mod Example
 pub mod Phases
 pub mod Present
 pub mod Reasons

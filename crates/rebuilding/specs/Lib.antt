@@ -2,3 +2,4 @@ pub mod Rebuild
 pub mod Marked
 pub mod Reasons
 pub mod Theorems
+pub mod Example
