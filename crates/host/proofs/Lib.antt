@@ -1,3 +1,4 @@
 pub mod Exports
 pub mod Samples
 pub mod Told
+pub mod Some
