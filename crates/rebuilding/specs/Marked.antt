@@ -1,4 +1,4 @@
--- What is said of the lost disks' flags is said of every list of marks that they are. Assumes nothing.
+-- What a call over the disks' flags promises holds for all marks that the flags stand for. Assumes nothing.
 use Prim.Native.Nat.{ℕ}
 use mathlib.Core.Bool.{Bool}
 use mathlib.Core.List.{List}

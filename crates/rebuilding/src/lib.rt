@@ -81,7 +81,7 @@ fn rebuild_tuples(geometry: Geometry, design: &[u16], lost: &[bool], array: &mut
     count
 }
 
-// A checked array, and the flags of its disks first: 13 is known before any byte moves.
+// A checked array, whose disks have the first flags: 13 is known before any byte moves.
 fn rebuild_lost(geometry: Geometry, design: &[u16], flags: &[bool], array: &mut [u8]) -> Rebuilt
     requires { ⌜ Laid geometry (now design) ⌝ }
     requires { ⌜ disksOf geometry ≤ length (now flags) ⌝ }

@@ -1,6 +1,7 @@
 -- `rebuilding::first_incomplete` meets its contract: no tuple so far is incomplete. Assumes nothing.
 use Prim.Native.Nat.{_-_}
 use native.Mathlib.Omega.{arith}
+use Rattle.geometry.proofs.Laws.{tuples-bound}
 use Rattle.rebuilding.proofs.Phases.{front-made, rooms-made, rooms-reach, Searching, searching-none, searching-more, searching-found, searching-all}
 use borrow.Author.Needs.{needs}
 use Rattle.rebuilding.proofs.first_incomplete.Statement.{statement}
@@ -13,10 +14,12 @@ abbrev μ-loop : tie.MeasureT-loop
 μ-loop geometry design lost tuples cells flags₀ log₀ t₀ flags log t = tuples - t
 
 tuples-requires : tie.Need-tuples-requires Inv-loop μ-loop
-tuples-requires c κs = search needs
+tuples-requires c κs =
+    c .before .before .pre .0 .sound
 
 tuple-cells-requires : tie.Need-tuple-cells-requires Inv-loop μ-loop
-tuple-cells-requires c κs = search needs
+tuple-cells-requires c κs =
+    c .before .before .before .pre .0 .sound
 
 array-borrow-prefix-flag-room : tie.Need-array-borrow-prefix-flag-room Inv-loop μ-loop
 array-borrow-prefix-flag-room c = search needs
@@ -38,25 +41,37 @@ loop-holds c =
 
 reach-requires : tie.Need-reach-requires Inv-loop μ-loop
 reach-requires c κs =
-    (c .before .before .before .before .before .before .before .before .before .before .pre .0, (omega (arith, c .before .before .loop-test .taken, c .before .before .before .before .before .before .before .tuples .ensures), rooms-reach (c .before .before .before .loop .inv .rooms) _ (c .before .before .before .before .before .before .before .before .before .before .pre .1)))
+    let p = c .before .before .before .before .before .before .before .before .before .before .pre in
+    (p .0, (omega (arith, c .before .before .loop-test .taken, c .before .before .before .before .before .before .before .tuples .ensures), rooms-reach (c .before .before .before .loop .inv .rooms) _ (p .1)))
 
 returns : tie.Need-returns Inv-loop μ-loop
 returns c =
-    searching-found (c .before .before .before .before .before .before .before .before .before .before .before .before .before .before .before .before .before .before .before .pre .0) (c .before .before .before .before .before .before .before .before .before .before .before .before .before .before .before .before .before .before .before .pre .1) (c .before .before .before .before .before .before .before .before .before .before .before .before .loop .inv) (omega (arith, c .before .before .before .before .before .before .before .before .before .before .before .loop-test .taken, c .before .before .before .before .before .before .before .before .before .before .before .before .before .before .before .before .tuples .ensures)) _ _ _ _ (c .before .before .before .before .before .before .before .before .reach .ensures .0) (c .before .before .before .before .before .before .before .before .reach .ensures .1) (c .before .before .if1 .taken)
+    let p = c .before .before .before .before .before .before .before .before .before .before .before .before .before .before .before .before .before .before .before .pre in
+    let r = c .before .before .before .before .before .before .before .before .reach in
+    searching-found (p .0) (p .1) (c .before .before .before .before .before .before .before .before .before .before .before .before .loop .inv)
+    (omega (arith, c .before .before .before .before .before .before .before .before .before .before .before .loop-test .taken, c .before .before .before .before .before .before .before .before .before .before .before .before .before .before .before .before .tuples .ensures)) _ _ _ _ (r .ensures .0)
+    (r .ensures .1) (c .before .before .if1 .taken)
 
 add-t : tie.Need-add-t Inv-loop μ-loop
-add-t c = search needs
+add-t c =
+    omega (arith, c .before .before .before .before .before .before .before .before .before .loop-test .taken, c .before .before .before .before .before .before .before .before .before .before .before .before .before .before .tuples .ensures, tuples-bound _ (c .before .before .before .before .before .before .before .before .before .before .before .before .before .before .before .before .before .pre .0 .sound))
 
 loop-less : tie.Need-loop-less Inv-loop μ-loop
-loop-less c = search needs
+loop-less c =
+    omega (arith, c .before .before .before .before .before .before .before .before .before .loop-test .taken)
 
 loop-again : tie.Need-loop-again Inv-loop μ-loop
 loop-again c =
-    searching-more (c .before .before .before .before .before .before .before .before .before .before .before .before .before .before .before .before .before .pre .0) (c .before .before .before .before .before .before .before .before .before .before .before .before .before .before .before .before .before .pre .1) (c .before .before .before .before .before .before .before .before .before .before .loop .inv) (omega (arith, c .before .before .before .before .before .before .before .before .before .loop-test .taken, c .before .before .before .before .before .before .before .before .before .before .before .before .before .before .tuples .ensures)) _ _ _ _ (c .before .before .before .before .before .before .reach .ensures .0) (c .before .before .before .before .before .before .reach .ensures .1) (c .before .before .before .before .before .before .reach .kept .1 .1 .1 .1 .0) (c .before .before .before .before .before .before .reach .kept .1 .1 .1 .1 .1 .0) (c .if1 .left)
+    let p = c .before .before .before .before .before .before .before .before .before .before .before .before .before .before .before .before .before .pre in
+    let r = c .before .before .before .before .before .before .reach in
+    searching-more (p .0) (p .1) (c .before .before .before .before .before .before .before .before .before .before .loop .inv)
+    (omega (arith, c .before .before .before .before .before .before .before .before .before .loop-test .taken, c .before .before .before .before .before .before .before .before .before .before .before .before .before .before .tuples .ensures)) _ _ _ _ (r .ensures .0)
+    (r .ensures .1) (r .kept .1 .1 .1 .1 .0) (r .kept .1 .1 .1 .1 .1 .0) (c .if1 .left)
 
 returns-2 : tie.Need-returns-2 Inv-loop μ-loop
 returns-2 c =
-    searching-all (c .before .before .before .before .before .before .before .before .before .before .pre .0) (c .before .before .before .before .before .before .before .before .before .before .pre .1) (c .before .before .before .loop .inv) _ (c .before .before .before .before .before .before .before .tuples .ensures) (c .before .before .loop-test .left)
+    let p = c .before .before .before .before .before .before .before .before .before .before .pre in
+    searching-all (p .0) (p .1) (c .before .before .before .loop .inv) _ (c .before .before .before .before .before .before .before .tuples .ensures) (c .before .before .loop-test .left)
 
 pub first-incomplete-spec : {M : Type 1} → statement M
 first-incomplete-spec =

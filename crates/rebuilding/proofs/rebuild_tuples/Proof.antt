@@ -15,10 +15,12 @@ abbrev μ-loop : tie.MeasureT-loop
 μ-loop geometry design lost array₀ tuples cells flags₀ log₀ count₀ done₀ array flags log count done = tuples - done
 
 tuples-requires : tie.Need-tuples-requires Inv-loop μ-loop
-tuples-requires c κs = search needs
+tuples-requires c κs =
+    c .before .before .before .pre .0 .sound
 
 tuple-cells-requires : tie.Need-tuple-cells-requires Inv-loop μ-loop
-tuple-cells-requires c κs = search needs
+tuple-cells-requires c κs =
+    c .before .before .before .before .pre .0 .sound
 
 array-borrow-prefix-flag-room : tie.Need-array-borrow-prefix-flag-room Inv-loop μ-loop
 array-borrow-prefix-flag-room c = search needs
@@ -40,29 +42,49 @@ loop-holds c =
 
 reach-requires : tie.Need-reach-requires Inv-loop μ-loop
 reach-requires c κs =
-    (c .before .before .before .before .before .before .before .before .before .before .before .pre .0, (omega (arith, c .before .before .loop-test .taken, c .before .before .before .before .before .before .before .tuples .ensures), rooms-reach (c .before .before .before .loop .inv .rooms) _ (c .before .before .before .before .before .before .before .before .before .before .before .pre .1 .0)))
+    let p = c .before .before .before .before .before .before .before .before .before .before .before .pre in
+    (p .0, (omega (arith, c .before .before .loop-test .taken, c .before .before .before .before .before .before .before .tuples .ensures), rooms-reach (c .before .before .before .loop .inv .rooms) _ (p .1 .0)))
 
 replay-requires : tie.Need-replay-requires Inv-loop μ-loop
 replay-requires c κs =
-    (c .before .before .before .before .before .before .before .before .before .before .before .before .before .before .before .before .before .before .pre .0, (omega (arith, c .before .before .before .before .before .before .before .before .before .loop-test .taken, c .before .before .before .before .before .before .before .before .before .before .before .before .before .before .tuples .ensures), (restoring-log (c .before .before .before .before .before .before .before .before .before .before .before .before .before .before .before .before .before .before .pre .0) (c .before .before .before .before .before .before .before .before .before .before .before .before .before .before .before .before .before .before .pre .1 .0) (c .before .before .before .before .before .before .before .before .before .before .loop .inv) (omega (arith, c .before .before .before .before .before .before .before .before .before .loop-test .taken, c .before .before .before .before .before .before .before .before .before .before .before .before .before .before .tuples .ensures)) _ _ _ _ (c .before .before .before .before .before .before .reach .ensures .0) (c .before .before .before .before .before .before .reach .ensures .1), c .before .before .before .before .before .before .before .before .before .before .loop .inv .array)))
+    let p = c .before .before .before .before .before .before .before .before .before .before .before .before .before .before .before .before .before .before .pre in
+    let r = c .before .before .before .before .before .before .reach in
+    let i = c .before .before .before .before .before .before .before .before .before .before .loop .inv in (
+      p .0,
+      (omega (arith, c .before .before .before .before .before .before .before .before .before .loop-test .taken, c .before .before .before .before .before .before .before .before .before .before .before .before .before .before .tuples .ensures), (restoring-log (p .0) (p .1 .0) i (omega (arith, c .before .before .before .before .before .before .before .before .before .loop-test .taken, c .before .before .before .before .before .before .before .before .before .before .before .before .before .before .tuples .ensures)) _ _ _ _ (r .ensures .0) (r .ensures .1), i .array)),
+    )
 
 cast-count : tie.Need-cast-count Inv-loop μ-loop
 cast-count c =
-    omega (arith, restoring-few (c .before .before .before .before .before .before .before .before .before .before .before .before .before .before .before .before .before .before .before .before .before .before .pre .0) (c .before .before .before .before .before .before .before .before .before .before .before .before .before .before .before .before .before .before .before .before .before .before .pre .1 .0) (c .before .before .before .before .before .before .before .before .before .before .before .before .before .before .loop .inv) (omega (arith, c .before .before .before .before .before .before .before .before .before .before .before .before .before .loop-test .taken, c .before .before .before .before .before .before .before .before .before .before .before .before .before .before .before .before .before .before .tuples .ensures)) _ _ _ _ (c .before .before .before .before .before .before .before .before .before .before .reach .ensures .0) (c .before .before .before .before .before .before .before .before .before .before .reach .ensures .1) (c .before .before .before .before .before .before .before .before .before .before .reach .kept .1 .1 .1 .1 .1 .0))
+    let p = c .before .before .before .before .before .before .before .before .before .before .before .before .before .before .before .before .before .before .before .before .before .before .pre in
+    let r = c .before .before .before .before .before .before .before .before .before .before .reach in
+    omega
+    (arith, restoring-few (p .0) (p .1 .0) (c .before .before .before .before .before .before .before .before .before .before .before .before .before .before .loop .inv) (omega (arith, c .before .before .before .before .before .before .before .before .before .before .before .before .before .loop-test .taken, c .before .before .before .before .before .before .before .before .before .before .before .before .before .before .before .before .before .before .tuples .ensures)) _ _ _ _ (r .ensures .0) (r .ensures .1) (r .kept .1 .1 .1 .1 .1 .0))
 
 add-count : tie.Need-add-count Inv-loop μ-loop
 add-count c =
-    omega (arith, c .before .before .before .before .before .before .before .before .before .before .before .before .before .before .loop .inv .few, c .before .before .before .before .before .before .before .before .before .before .before .before .before .before .loop .inv .most, tuples-bound _ (c .before .before .before .before .before .before .before .before .before .before .before .before .before .before .before .before .before .before .before .before .before .before .pre .0 .sound), restoring-few (c .before .before .before .before .before .before .before .before .before .before .before .before .before .before .before .before .before .before .before .before .before .before .pre .0) (c .before .before .before .before .before .before .before .before .before .before .before .before .before .before .before .before .before .before .before .before .before .before .pre .1 .0) (c .before .before .before .before .before .before .before .before .before .before .before .before .before .before .loop .inv) (omega (arith, c .before .before .before .before .before .before .before .before .before .before .before .before .before .loop-test .taken, c .before .before .before .before .before .before .before .before .before .before .before .before .before .before .before .before .before .before .tuples .ensures)) _ _ _ _ (c .before .before .before .before .before .before .before .before .before .before .reach .ensures .0) (c .before .before .before .before .before .before .before .before .before .before .reach .ensures .1) (c .before .before .before .before .before .before .before .before .before .before .reach .kept .1 .1 .1 .1 .1 .0))
+    let p = c .before .before .before .before .before .before .before .before .before .before .before .before .before .before .before .before .before .before .before .before .before .before .pre in
+    let r = c .before .before .before .before .before .before .before .before .before .before .reach in
+    let i = c .before .before .before .before .before .before .before .before .before .before .before .before .before .before .loop .inv in
+    omega
+    (arith, i .few, i .most, tuples-bound _ (p .0 .sound), restoring-few (p .0) (p .1 .0) i (omega (arith, c .before .before .before .before .before .before .before .before .before .before .before .before .before .loop-test .taken, c .before .before .before .before .before .before .before .before .before .before .before .before .before .before .before .before .before .before .tuples .ensures)) _ _ _ _ (r .ensures .0) (r .ensures .1) (r .kept .1 .1 .1 .1 .1 .0))
 
 add-done : tie.Need-add-done Inv-loop μ-loop
-add-done c = search needs
+add-done c =
+    omega (arith, c .before .before .before .before .before .before .before .before .before .before .before .before .before .loop-test .taken, c .before .before .before .before .before .before .before .before .before .before .before .before .before .before .before .before .before .before .tuples .ensures, tuples-bound _ (c .before .before .before .before .before .before .before .before .before .before .before .before .before .before .before .before .before .before .before .before .before .before .pre .0 .sound))
 
 loop-less : tie.Need-loop-less Inv-loop μ-loop
-loop-less c = search needs
+loop-less c =
+    omega (arith, c .before .before .before .before .before .before .before .before .before .before .before .before .before .loop-test .taken)
 
 loop-again : tie.Need-loop-again Inv-loop μ-loop
 loop-again c =
-    restoring-more (c .before .before .before .before .before .before .before .before .before .before .before .before .before .before .before .before .before .before .before .before .before .before .pre .0) (c .before .before .before .before .before .before .before .before .before .before .before .before .before .before .before .before .before .before .before .before .before .before .pre .1 .0) (c .before .before .before .before .before .before .before .before .before .before .before .before .before .before .loop .inv) (omega (arith, c .before .before .before .before .before .before .before .before .before .before .before .before .before .loop-test .taken, c .before .before .before .before .before .before .before .before .before .before .before .before .before .before .before .before .before .before .tuples .ensures)) _ _ _ _ (c .before .before .before .before .before .before .before .before .before .before .reach .ensures .0) (c .before .before .before .before .before .before .before .before .before .before .reach .ensures .1) (c .before .before .before .before .before .before .before .before .before .before .reach .kept .1 .1 .1 .1 .0) (c .before .before .before .before .before .before .before .before .before .before .reach .kept .1 .1 .1 .1 .1 .0) _ (c .before .before .before .replay .kept .1 .1 .1 .1 .1 .0) (c .before .before .before .replay .ensures)
+    let p = c .before .before .before .before .before .before .before .before .before .before .before .before .before .before .before .before .before .before .before .before .before .before .pre in
+    let r = c .before .before .before .before .before .before .before .before .before .before .reach in
+    let s = c .before .before .before .replay in
+    restoring-more (p .0) (p .1 .0) (c .before .before .before .before .before .before .before .before .before .before .before .before .before .before .loop .inv)
+    (omega (arith, c .before .before .before .before .before .before .before .before .before .before .before .before .before .loop-test .taken, c .before .before .before .before .before .before .before .before .before .before .before .before .before .before .before .before .before .before .tuples .ensures)) _ _ _ _ (r .ensures .0)
+    (r .ensures .1) (r .kept .1 .1 .1 .1 .0) (r .kept .1 .1 .1 .1 .1 .0) _ (s .kept .1 .1 .1 .1 .1 .0) (s .ensures)
 
 same-length : tie.Need-same-length Inv-loop μ-loop
 same-length c =
@@ -70,7 +92,8 @@ same-length c =
 
 returns : tie.Need-returns Inv-loop μ-loop
 returns c =
-    restoring-all (c .before .before .before .before .before .before .before .before .before .before .before .pre .0) (c .before .before .before .before .before .before .before .before .before .before .before .pre .1 .0) (c .before .before .before .loop .inv) (omega (arith, c .before .before .loop-test .left, c .before .before .before .before .before .before .before .tuples .ensures))
+    let p = c .before .before .before .before .before .before .before .before .before .before .before .pre in
+    restoring-all (p .0) (p .1 .0) (c .before .before .before .loop .inv) (omega (arith, c .before .before .loop-test .left, c .before .before .before .before .before .before .before .tuples .ensures))
 
 pub rebuild-tuples-spec : {M : Type 1} → statement M
 rebuild-tuples-spec =
