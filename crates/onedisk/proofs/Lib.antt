@@ -1,0 +1,4 @@
+pub mod AtOnce
+pub mod Marked
+pub mod Column
+pub mod Theorems

@@ -1,0 +1,2 @@
+pub mod OneDisk
+pub mod Theorems
