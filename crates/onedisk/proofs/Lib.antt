@@ -1,4 +1,6 @@
 pub mod AtOnce
 pub mod Marked
 pub mod Column
+pub mod Triples
+pub mod Planned
 pub mod Theorems

@@ -1,2 +1,3 @@
 -- The statements of specs/Theorems.antt hold. Assumes nothing.
 pub use Rattle.onedisk.proofs.Column.{the-passes-of-one-lost-disk}
+pub use Rattle.onedisk.proofs.Planned.{each-rebuilt-byte-is-the-XOR-of-its-planned-sources}

@@ -1,2 +1,3 @@
 pub mod OneDisk
+pub mod Sources
 pub mod Theorems
