@@ -1,3 +1,8 @@
 -- The statements of specs/Theorems.antt hold. Assumes nothing.
 pub use Rattle.onedisk.proofs.Column.{the-passes-of-one-lost-disk}
 pub use Rattle.onedisk.proofs.Planned.{each-rebuilt-byte-is-the-XOR-of-its-planned-sources}
+pub use Rattle.onedisk.proofs.Accepted.{
+  one-lost-disk-is-rebuilt,
+  the-lost-disk-is-planned,
+  the-rebuilt-disk-is-the-XOR-of-the-plan,
+}

@@ -1,3 +1,4 @@
 pub mod OneDisk
 pub mod Sources
+pub mod Calls
 pub mod Theorems
