@@ -1,0 +1,3 @@
+pub mod Histories
+pub mod Ideal
+pub mod Theorems
