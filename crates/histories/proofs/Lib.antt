@@ -6,3 +6,4 @@ pub mod Written
 pub mod Losses
 pub mod Rebuilds
 pub mod Kept
+pub mod Demand

@@ -93,7 +93,7 @@ module _ (G : Geometry) (d marks : List ℕ) (m o n : ℕ) where
   -- ---- two arrays that agree on the disks that are not marked
   module _ (a i : List ℕ) (same : SamePresentBytes G marks a i) (low : (x : ℕ) → x < disksOf G → getD marks x 0 ≤ 1)
       (T : Through a) (li : length i ≡ bytesOf G) where
-    range-of-ideal : Range G d i m o n
+    pub range-of-ideal : Range G d i m o n
     range-of-ideal =
         record { laid = T .range .laid; whole = li; user = T .range .user; inside = T .range .inside }
 

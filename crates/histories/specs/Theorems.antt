@@ -1,13 +1,25 @@
 -- What is proved of histories, each under its sentence of 00: the statements alone. Assumes nothing.
-use Prim.Native.Nat.{ℕ, _≤_, _<_}
+use Prim.Native.Nat.{ℕ, _+_, _*_, _≤_, _<_}
 use mathlib.Core.Path.{_≡_}
-use mathlib.Core.List.{List}
-use lib.ListN.{getD, length}
+use mathlib.Core.Bool.{true}
+use mathlib.Core.List.{List, [], _∷_}
+use lib.ListN.{getD, length, replicate}
+use Rattle.refusal.specs.declared.Checked.the-variants.{Fine, Refused}
 use Rattle.geometry.specs.declared.Geometry.{Geometry}
-use Rattle.geometry.specs.Geometry.{disksOf, bytesOf}
+use Rattle.geometry.specs.declared.UserUnit.{UserUnit}
+use Rattle.geometry.specs.Geometry.{disksOf, unitsOf, bytesOf}
 use Rattle.design.specs.Design.{Laid}
-use Rattle.histories.specs.Histories.{State, Event, diskOf, markedDisks, History}
-use Rattle.histories.specs.Ideal.{Ideal}
+use Rattle.rebuilding.specs.declared.Rebuilt.{Rebuilt}
+use Rattle.rebuilding.specs.declared.Rebuilt.the-variants as Rebuild
+use Rattle.histories.specs.Histories.{State, Event, formatted, wasRead, written, audited, rebuilt, asked, lost}
+use Rattle.histories.specs.Histories.{diskOf, markedDisks, Step, History, refusedCall}
+use Rattle.histories.specs.Ideal.{lastWritten, Ideal}
+
+-- dropping the newest event leaves a history, and a step from where it ended
+abbrev pub A-history-without-its-newest-event-is-one : Type 0
+A-history-without-its-newest-event-is-one =
+    (G : Geometry) (d : List ℕ) (e f : Event) (es : List Event) (t : State) → History G d (e ∷ f ∷ es) t →
+    (s : State) × History G d (f ∷ es) s × Step G d s e t
 
 -- the events leave no choice: there is at most one such array
 abbrev pub The-ideal-is-one : Type 0
@@ -33,3 +45,27 @@ pub record Keeps (G : Geometry) (d : List ℕ) (es : List Event) (t : State) : T
 abbrev pub Every-history-keeps-its-ideal : Type 0
 Every-history-keeps-its-ideal =
     (G : Geometry) (d : List ℕ) (es : List Event) (t : State) → History G d es t → Keeps G d es t
+
+-- "Then rebuild is accepted, and every byte of every disk is what the last format and the accepted writes after it make where
+-- nothing is lost": what is so after a history, whatever its next step
+pub record AsIfNothingWereLost (G : Geometry) (d : List ℕ) (es : List Event) (t : State) : Type 0 where
+  pub ideal : List ℕ
+  pub is-ideal : Ideal G d es ideal
+  pub only : (a : List ℕ) → Ideal G d es a → a ≡ ideal
+  -- every disk that is not marked holds the ideal's bytes
+  pub present : SamePresentBytes G (t .marks) (t .array) ideal
+  -- an accepted read gives the bytes last written
+  pub reads :
+      (n : UserUnit) (offset : ℕ) (bytes : List ℕ) (w : State) → Step G d t (wasRead n offset bytes Fine) w →
+      (j : ℕ) → j < length bytes → getD bytes j 0 ≡ lastWritten es (n .0) (offset + j)
+  -- a refused call leaves array and marks as they were
+  pub refusals : (e : Event) (w : State) → Step G d t e w → refusedCall e ≡ true → w ≡ t
+  -- a rebuild is not refused, restores the units of the marked disks, and leaves the ideal and no mark
+  pub rebuilds :
+      (r : Rebuilt) (w : State) → Step G d t (rebuilt r) w →
+      (r ≡ Rebuild.Restored (markedDisks G (t .marks) * unitsOf G)) × (w .array ≡ ideal) × (w .marks ≡ replicate (disksOf G) 0)
+  -- and some answer meets its contract
+  pub can-rebuild : (r : Rebuilt) × (w : State) × Step G d t (rebuilt r) w
+
+abbrev pub Demand-2 : Type 0
+Demand-2 = (G : Geometry) (d : List ℕ) (es : List Event) (t : State) → History G d es t → AsIfNothingWereLost G d es t
