@@ -7,3 +7,4 @@ pub mod Losses
 pub mod Rebuilds
 pub mod Kept
 pub mod Demand
+pub mod Made

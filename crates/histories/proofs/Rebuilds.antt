@@ -58,7 +58,7 @@ module _ (G : Geometry) (d : List ℕ) (es : List Event) (s t : State) (k : Keep
 
   -- ---- none of 2 to 8 is due, where 2 to 6 and the limit let the format through
   module _ (sizes : verdict (sizesRules G d) ≡ accepted tt) (limit : bytesOf G ≤ 1073741824) where
-    still-fine : verdict (arrayRules G d (length (s .array)) (s .marks)) ≡ accepted tt
+    pub still-fine : verdict (arrayRules G d (length (s .array)) (s .marks)) ≡ accepted tt
     still-fine =
         array-fine G d (length (s .array)) (s .marks) sizes (words-fits G (length (s .array)) (k .array-long) limit) (k .marks-long)
         (lowest (markHigh (s .marks)) (length (s .marks))) refl

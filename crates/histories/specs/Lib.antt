@@ -1,3 +1,4 @@
 pub mod Histories
 pub mod Ideal
+pub mod Made
 pub mod Theorems

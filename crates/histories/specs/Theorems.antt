@@ -4,16 +4,17 @@ use mathlib.Core.Path.{_≡_}
 use mathlib.Core.Bool.{true}
 use mathlib.Core.List.{List, [], _∷_}
 use lib.ListN.{getD, length, replicate}
-use Rattle.refusal.specs.declared.Checked.the-variants.{Fine, Refused}
+use Rattle.refusal.specs.declared.Checked.the-variants.{Fine}
 use Rattle.geometry.specs.declared.Geometry.{Geometry}
 use Rattle.geometry.specs.declared.UserUnit.{UserUnit}
 use Rattle.geometry.specs.Geometry.{disksOf, unitsOf, bytesOf}
 use Rattle.design.specs.Design.{Laid}
 use Rattle.rebuilding.specs.declared.Rebuilt.{Rebuilt}
 use Rattle.rebuilding.specs.declared.Rebuilt.the-variants as Rebuild
-use Rattle.histories.specs.Histories.{State, Event, formatted, wasRead, written, audited, rebuilt, asked, lost}
+use Rattle.histories.specs.Histories.{State, Event, wasRead, rebuilt}
 use Rattle.histories.specs.Histories.{diskOf, markedDisks, Step, History, refusedCall}
 use Rattle.histories.specs.Ideal.{lastWritten, Ideal}
+use Rattle.histories.specs.Made.{Made}
 
 -- dropping the newest event leaves a history, and a step from where it ended
 abbrev pub A-history-without-its-newest-event-is-one : Type 0
@@ -69,3 +70,9 @@ pub record AsIfNothingWereLost (G : Geometry) (d : List ℕ) (es : List Event) (
 
 abbrev pub Demand-2 : Type 0
 Demand-2 = (G : Geometry) (d : List ℕ) (es : List Event) (t : State) → History G d es t → AsIfNothingWereLost G d es t
+
+-- the ideal array is what the request names: the last format and the accepted writes after it, made again with nothing lost, are
+-- accepted again and leave exactly it
+abbrev pub The-ideal-is-what-format-and-writes-make : Type 0
+The-ideal-is-what-format-and-writes-make =
+    (G : Geometry) (d : List ℕ) (es : List Event) (t : State) → History G d es t → (a : List ℕ) → Ideal G d es a → Made G d es a
