@@ -458,10 +458,10 @@ fn rebuilt_of(x: Rebuilt) -> CountAnswer
     ensures { λ r. ⌜ r ≡ flatCount (rebuiltOutcome x) ⌝ }
 {
     match x {
-        Rebuilt::Restored(n) => CountAnswer {
+        Rebuilt::Restored(units) => CountAnswer {
             refusal: 0,
             place: 0,
-            count: n,
+            count: units,
         },
         Rebuilt::Refused(why) => CountAnswer {
             refusal: why.number,
