@@ -4,4 +4,7 @@ pub mod Column
 pub mod Triples
 pub mod Planned
 pub mod Accepted
+pub mod Counts
+pub mod Hits
+pub mod Shares
 pub mod Theorems

@@ -41,24 +41,13 @@ use Rattle.onedisk.proofs.Triples.{
   listSum,
   list-none,
   list-append,
-  threes-others,
+  threes-unit,
   others-elsewhere,
   others-here,
 }
 
 -- ---- the plan: only the triples of unit y count for it
 module _ (G : Geometry) (d a : List ℕ) (j y : ℕ) where
-  threes-unit : (z : ℕ) (x : Cell) → Threes (unitPlan G d z x)
-  unfolding unitPlan
-  threes-unit z x = go (ltb (x .row) (G .g - 1))
-    where
-      go :
-          (b : Bool) → Threes (cond b
-          (others G d z (outerMember G (x .tuple .0) (x .row) (labelOf G x)) (x .position) (G .k))
-          (others G d z (innerMember G (x .tuple .0) (x .position) (diagonalOf G x)) (x .row) (G .g)))
-      go true = threes-others G a j y d z _ (x .position) (G .k)
-      go false = threes-others G a j y d z _ (x .row) (G .g)
-
   unit-elsewhere : (z : ℕ) (x : Cell) → (z ≡ y → ⊥) → listSum G a j y (unitPlan G d z x) ≡ 0
   unfolding unitPlan
   unit-elsewhere z x ne = go (ltb (x .row) (G .g - 1))
@@ -75,7 +64,7 @@ module _ (G : Geometry) (d a : List ℕ) (j y : ℕ) where
     planned z = unitPlan G d z (cellAt G d x z)
 
     threes-planned : (n : ℕ) → Threes (listsOf planned n)
-    threes-planned n = threes-lists planned n (λ z. threes-unit z (cellAt G d x z))
+    threes-planned n = threes-lists planned n (λ z. threes-unit G d z (cellAt G d x z))
 
     lists-before : (n : ℕ) → n ≤ y → listSum G a j y (listsOf planned n) ≡ 0
     unfolding listsOf

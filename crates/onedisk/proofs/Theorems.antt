@@ -6,3 +6,4 @@ pub use Rattle.onedisk.proofs.Accepted.{
   the-lost-disk-is-planned,
   the-rebuilt-disk-is-the-XOR-of-the-plan,
 }
+pub use Rattle.onedisk.proofs.Shares.{each-disk-gives-its-share}

@@ -1,21 +1,23 @@
 -- Lists of triples, one after the other, and the XOR over their sources. Assumes nothing.
-use Prim.Native.Nat.{ℕ, zero, suc, _+_, _<_}
+use Prim.Native.Nat.{ℕ, zero, suc, _+_, _-_, _<_}
 use mathlib.Core.Path.{_≡_, refl, sym, ap, ap₂, _∙_}
 use mathlib.Core.Bool.{Bool, true, false, cond}
 use mathlib.Core.List.{List, [], _∷_, _++_, append-nil}
 use native.Mathlib.Decide.{ℕ-discrete}
 use native.Mathlib.Omega.{arith}
 use lib.Bits.{bitXor, xor-zero-r}
-use lib.Dec.{eqb}
+use lib.Dec.{ltb, eqb}
 use borrow.Author.Tests.{eq-eqb, ne-eqb}
 use Rattle.geometry.specs.declared.Geometry.{Geometry}
 use Rattle.cells.specs.declared.Cell.{Cell}
+use Rattle.cells.specs.Cells.{labelOf, diagonalOf}
+use Rattle.cells.specs.Sets.{outerMember, innerMember}
 use Rattle.array.specs.Array.{cellStart}
 use Rattle.leaves.proofs.Xor.{xor-assoc}
 use Rattle.peeling.specs.Peeling.{Side, restSum}
 use Rattle.peeling.proofs.Bytes.{rest-own, rest-other}
 use Rattle.replaying.proofs.Bytes.{byteAt}
-use Rattle.sources.specs.Plan.{listsOf, triple, others}
+use Rattle.sources.specs.Plan.{listsOf, triple, others, unitPlan}
 use Rattle.onedisk.specs.Sources.{Triple, triplesIn, sourceByte, sourceSum}
 
 -- the list is one of triples
@@ -35,6 +37,25 @@ pub threes-lists : (f : ℕ → List ℕ) (n : ℕ) → ((i : ℕ) → Threes (f
 unfolding listsOf
 threes-lists f zero h = tt {0}
 threes-lists f (suc n) h = threes-append (listsOf f n) (f n) (threes-lists f n h) (h n)
+
+-- a set's triples are triples
+pub threes-others : (G : Geometry) (d : List ℕ) (z : ℕ) (member : ℕ → Cell) (q n : ℕ) → Threes (others G d z member q n)
+threes-others G d z member q n = threes-lists _ n (λ e. go e (eqb e q))
+  where
+    go : (e : ℕ) (b : Bool) → Threes (cond b [] (triple G d z (member e)))
+    go e true = tt {0}
+    go e false = tt {0}
+
+pub threes-unit : (G : Geometry) (d : List ℕ) (z : ℕ) (x : Cell) → Threes (unitPlan G d z x)
+unfolding unitPlan
+threes-unit G d z x = go (ltb (x .row) (G .g - 1))
+  where
+    go :
+        (b : Bool) → Threes (cond b
+        (others G d z (outerMember G (x .tuple .0) (x .row) (labelOf G x)) (x .position) (G .k))
+        (others G d z (innerMember G (x .tuple .0) (x .position) (diagonalOf G x)) (x .row) (G .g)))
+    go true = threes-others G d z _ (x .position) (G .k)
+    go false = threes-others G d z _ (x .row) (G .g)
 
 pub triples-append : (xs ys : List ℕ) → Threes xs → triplesIn (xs ++ ys) ≡ triplesIn xs ++ triplesIn ys
 unfolding triplesIn
@@ -79,21 +100,13 @@ module _ (G : Geometry) (a : List ℕ) (j y : ℕ) where
     list-elsewhere z x ne =
         xor-zero-r _ ∙ ap (λ (b : Bool). cond b (byteAt G d a j x) 0) (ne-eqb z y ne)
 
-    -- a set's triples are triples
-    pub threes-others : (z : ℕ) (member : ℕ → Cell) (q n : ℕ) → Threes (others G d z member q n)
-    threes-others z member q n = threes-lists _ n (λ e. go e (eqb e q))
-      where
-        go : (e : ℕ) (b : Bool) → Threes (cond b [] (triple G d z (member e)))
-        go e true = tt {0}
-        go e false = tt {0}
-
     -- of the set of another unit none counts
     pub others-elsewhere :
         (z : ℕ) (member : ℕ → Cell) (q n : ℕ) → (z ≡ y → ⊥) → listSum (others G d z member q n) ≡ 0
     unfolding listsOf
     others-elsewhere z member q zero ne = list-none
     others-elsewhere z member q (suc n) ne =
-        list-append (others G d z member q n) (cond (eqb n q) [] (triple G d z (member n))) (threes-others z member q n)
+        list-append (others G d z member q n) (cond (eqb n q) [] (triple G d z (member n))) (threes-others G d z member q n)
         ∙ ap₂ bitXor (others-elsewhere z member q n ne) (go (eqb n q))
       where
         go : (b : Bool) → listSum (cond b [] (triple G d z (member n))) ≡ 0
@@ -124,5 +137,5 @@ module _ (G : Geometry) (a : List ℕ) (j y : ℕ) where
         go (no e) ih =
             rest-other b s n e
             ∙ ap₂ bitXor ih (h n (omega arith) ∙ sym (list-here (member n)))
-            ∙ sym (list-append before (triple G d y (member n)) (threes-others y member (s .own) n))
+            ∙ sym (list-append before (triple G d y (member n)) (threes-others G d y member (s .own) n))
             ∙ sym (more false (ne-eqb n (s .own) e))

@@ -6,7 +6,7 @@ use lib.ListN.{getD, length, take}
 use contract.Lifetimes.{Lfts}
 use denote.Ref.{RefT, now}
 use Rattle.geometry.specs.declared.Geometry.{Geometry}
-use Rattle.geometry.specs.Geometry.{tuplesOf, unitsOf, bytesOf}
+use Rattle.geometry.specs.Geometry.{tuplesOf, disksOf, unitsOf, bytesOf}
 use Rattle.design.specs.Design.{Laid}
 use Rattle.layout.specs.Places.{place}
 use Rattle.array.specs.Array.{startOf}
@@ -19,7 +19,7 @@ use Rattle.planning.specs.declared.Planned.{Planned}
 use Rattle.planning.specs.declared.Planned.the-variants.{Triples}
 use Rattle.planning.specs.Plan.{triplesOf}
 use Rattle.onedisk.specs.OneDisk.{OneLost, diskSteps}
-use Rattle.onedisk.specs.Sources.{triplesIn, sourceSum}
+use Rattle.onedisk.specs.Sources.{triplesIn, sourceSum, Shares}
 use Rattle.onedisk.specs.Calls.{Rebuilds, Plans, Ready}
 
 -- "A missing unit whose outer set lacks only it becomes the XOR of the rest; otherwise, if its inner set lacks only it": with
@@ -63,3 +63,11 @@ The-rebuilt-disk-is-the-XOR-of-the-plan =
     (y j : ℕ) → y < unitsOf G → j < G .u →
     getD (now bytes) (startOf G (place x y) + j) 0
     ≡ sourceSum G (now array) j y (triplesIn (take (3 * n) (now last)))
+
+-- ---- what the plan reads
+
+-- the pairs of source disk and unit are pairwise different; "In every other group all disks but one give one unit and that one
+-- gives none. Each surviving disk of its own group gives one unit per part."
+abbrev pub Each-disk-gives-its-share : Type 0
+Each-disk-gives-its-share =
+    (G : Geometry) (d : List ℕ) → Laid G d → (x : ℕ) → x < disksOf G → Shares G x (triplesIn (planOf G d x))
