@@ -1,5 +1,5 @@
 /* One call, proved or plain, many times: run under callgrind to count instructions, or alone to measure stack.
- * usage: calls proved|plain check|map|role V K G COUNT   or   calls stack V K G */
+ * usage: calls proved|plain check|map|role|plan V K G COUNT   or   calls stack V K G, which compares all plans first */
 #include <inttypes.h>
 #include <stdio.h>
 #include <stdlib.h>
@@ -7,6 +7,8 @@
 
 #include "plain.h"
 #include "stack.h"
+
+enum { PLAN_MAX = 10800 }; /* numbers that are lent to a plan, more than any has */
 
 static uint16_t design[8192];
 static size_t length;
@@ -32,6 +34,23 @@ static void make(void) {
 
 static uint64_t sum;
 
+static himzolven_count_answer plan(int proved, uint32_t disk, uint32_t list[PLAN_MAX]) {
+    if (proved) return himzolven_plan(v, k, g, 512, design, length, disk, list, PLAN_MAX);
+    return plain_plan(v, k, g, 512, design, length, disk, list, PLAN_MAX);
+}
+
+/* every disk's, whole, and what lies past it */
+static void same_plans(void) {
+    static uint32_t ours[PLAN_MAX], other[PLAN_MAX];
+    for (uint32_t disk = 0; disk <= v * g; disk++) {
+        himzolven_count_answer a = plan(1, disk, ours), b = plan(0, disk, other);
+        if (memcmp(&a, &b, sizeof a) != 0 || memcmp(ours, other, sizeof ours) != 0) {
+            fprintf(stderr, "the plans of disk %" PRIu32 " differ\n", disk);
+            exit(2);
+        }
+    }
+}
+
 static void once(int proved, const char *call, uint32_t i) {
     uint32_t users = (uint32_t)(length / k) * (k - 1) * (g - 1) * g;
     uint32_t disks = v * g, units = (v - 1) / (k - 1) * g;
@@ -47,6 +66,9 @@ static void once(int proved, const char *call, uint32_t i) {
         uint32_t n = i * 7919 % users;
         himzolven_map_answer a = proved ? himzolven_map(v, k, g, 512, design, length, n) : plain_map(v, k, g, 512, design, length, n);
         sum += a.data_disk + a.both_unit;
+    } else if (strcmp(call, "plan") == 0) {
+        static uint32_t list[PLAN_MAX];
+        sum += plan(proved, i * 7919 % disks, list).count + list[i * 104729 % PLAN_MAX];
     } else {
         uint32_t d = i * 7919 % disks, e = i * 104729 % units;
         himzolven_role_answer a = proved ? himzolven_role(v, k, g, 512, design, length, d, e) : plain_role(v, k, g, 512, design, length, d, e);
@@ -69,11 +91,13 @@ int main(int argc, char **argv) {
     if (argc == 5 && strcmp(argv[1], "stack") == 0) {
         v = (uint32_t)atoi(argv[2]), k = (uint32_t)atoi(argv[3]), g = (uint32_t)atoi(argv[4]);
         make();
-        printf("%zu %zu %zu %zu %zu\n", touched("check"), touched("map"), touched("role"), touched("sizes"), touched("fill"));
+        same_plans();
+        const char *all[] = {"check", "map", "role", "plan", "sizes", "fill"};
+        for (int c = 0; c < 6; c++) printf("%zu%s", touched(all[c]), c < 5 ? " " : "\n");
         return 0;
     }
     if (argc != 7) {
-        fprintf(stderr, "usage: calls proved|plain check|map|role V K G COUNT, or calls stack V K G\n");
+        fprintf(stderr, "usage: calls proved|plain check|map|role|plan V K G COUNT, or calls stack V K G\n");
         return 2;
     }
     v = (uint32_t)atoi(argv[3]), k = (uint32_t)atoi(argv[4]), g = (uint32_t)atoi(argv[5]);

@@ -50,6 +50,14 @@ static uint32_t part_of(const uint16_t *design, size_t end, uint16_t group) {
     return n;
 }
 
+/* the entry of a group's part */
+static size_t entry_of(const uint16_t *design, uint32_t group, uint32_t part) {
+    uint32_t seen = 0;
+    size_t e = 0;
+    for (;; e++)
+        if (design[e] == group && seen++ == part) return e;
+}
+
 himzolven_map_answer plain_map(uint32_t v, uint32_t k, uint32_t g, uint32_t u, const uint16_t *design, size_t length, uint32_t n) {
     himzolven_map_answer r;
     memset(&r, 0, sizeof r);
@@ -83,10 +91,8 @@ himzolven_role_answer plain_role(uint32_t v, uint32_t k, uint32_t g, uint32_t u,
     r.refusal = a.refusal;
     r.place = a.place;
     if (a.refusal != 0) return r;
-    uint32_t group = disk / g, x = disk % g, p = unit / g, i = unit % g, seen = 0;
-    size_t e = 0;
-    for (;; e++)
-        if (design[e] == group && seen++ == p) break;
+    uint32_t group = disk / g, x = disk % g, p = unit / g, i = unit % g;
+    size_t e = entry_of(design, group, p);
     uint32_t t = (uint32_t)(e / k), l = (uint32_t)(e % k);
     if (i == g - 1) {
         r.kind = 2;
@@ -105,4 +111,34 @@ himzolven_role_answer plain_role(uint32_t v, uint32_t k, uint32_t g, uint32_t u,
         r.a = ((t * (k - 1) + l) * (g - 1) + i) * g + c;
     }
     return r;
+}
+
+static uint32_t *put(uint32_t *to, uint32_t unit, uint32_t disk, uint32_t source) {
+    to[0] = unit;
+    to[1] = disk;
+    to[2] = source;
+    return to + 3;
+}
+
+himzolven_count_answer plain_plan(uint32_t v, uint32_t k, uint32_t g, uint32_t u, const uint16_t *design, size_t length, uint32_t disk, uint32_t *list, size_t list_length) {
+    himzolven_answer a = plain_sizes_check(v, k, g, u, design, length);
+    uint32_t r = a.refusal == 0 ? (v - 1) / (k - 1) : 0, n = r * (g - 1) * k;
+    if (a.refusal == 0 && disk >= v * g) a = answer(9, 0);
+    if (a.refusal == 0 && list_length < 3 * n) a = answer(14, 0);
+    himzolven_count_answer made = {a.refusal, a.place, a.refusal == 0 ? n : 0};
+    if (a.refusal != 0) return made;
+    uint32_t group = disk / g, x = disk % g;
+    for (uint32_t p = 0; p < r; p++) {
+        size_t e = entry_of(design, group, p);
+        const uint16_t *row = design + e / k * k;
+        uint32_t l = (uint32_t)(e % k), j = (2 * g - 1 - x) % g, part[10];
+        for (uint32_t m = 0; m < k; m++) part[m] = part_of(design, e / k * k, row[m]);
+        for (uint32_t i = 0; i + 1 < g; i++) {
+            uint32_t c = (x + i * (g - l)) % g;
+            for (uint32_t m = 0; m < k; m++)
+                if (m != l) list = put(list, p * g + i, row[m] * g + (c + i * m) % g, part[m] * g + i);
+        }
+        for (uint32_t i = 0; i + 1 < g; i++) list = put(list, p * g + g - 1, group * g + (i + g - j) % g, p * g + i);
+    }
+    return made;
 }
