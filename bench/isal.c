@@ -27,3 +27,10 @@ int isal_differ(const uint8_t *array, const size_t *starts, size_t count, size_t
     for (size_t t = 0; t < count; t++) units[t] = (void *)(uintptr_t)(array + starts[t]);
     return xor_check((int)count, (int)u, units);
 }
+
+void isal_restore(uint8_t *array, size_t target, const size_t *sources, size_t count, size_t u) {
+    void *units[SOURCES_MAX];
+    for (size_t t = 0; t < count; t++) units[t] = array + sources[t];
+    units[count] = array + target;
+    xor_gen((int)count + 1, (int)u, units);
+}

@@ -4,14 +4,15 @@ import subprocess
 
 from tables import prose, table
 
-CALLS = ("format", "read", "write", "audit")
+CALLS = ("format", "read", "write", "audit", "rebuild")
 CASE = (7, 3, 3)
 SIZES = (127, 128, 4095, 4096)
 ABOUT = f"""
-By disassembly of the linked archive, with the instructions that one call ran on F, g = 3 (callgrind). Listed are the loops that
-ran, have no packed access and take 8 bytes or fewer at a time: those whose turns depend on u, and those that take single bytes. A
-tail turns as often at u = 4095 as at {SIZES[0]} and at 4096 as at {SIZES[1]}: whole blocks add no turn. What is the same at each u belongs to the
-check of the design, which stops at the first fault, and to the marks.
+By disassembly of the linked archive, with the instructions that one call ran on F, g = 3 (callgrind); the rebuild is of 2+1 disks.
+Listed are the loops that ran, have no packed access and take 8 bytes or fewer at a time: those whose turns depend on u, and those
+that take single bytes. A tail turns as often at u = 4095 as at {SIZES[0]} and at 4096 as at {SIZES[1]}: whole blocks add no turn.
+What is the same at each u belongs to the check of the design, which stops at the first fault, to the marks, and to the flags by
+which a rebuild decides. Calls are those to the C library, with how often each is made.
 """
 PACKED = "No loop grows with u: every byte loop is packed but for its tail."
 WIDTH = {"BYTE": 1, "WORD": 2, "DWORD": 4, "QWORD": 8, "XMMWORD": 16, "YMMWORD": 32, "ZMMWORD": 64}
@@ -96,6 +97,17 @@ def moved(code, counts, least, most):
     return sum(n for n, _ in ran), sum(n * width for n, width in ran)
 
 
+def handed(code, counts):
+    """The calls of the C library's functions, and how many. The instruction before a call is counted: the call itself gets some of
+    what its first run costs."""
+    made = {}
+    for steps in code.values():
+        for (before, _), (_, text) in zip(steps, steps[1:]):
+            for name in re.findall(r"<(mem\w+)@plt>", text) if counts.get(before) else ():
+                made[name] = made.get(name, 0) + counts[before]
+    return ", ".join(f"{name}: {n}" for name, n in sorted(made.items()))
+
+
 def loop_rows(code, call, counts):
     """The narrow loops of a call that turned: tails and growing ones, and of the others those that take single bytes."""
     for name, steps in sorted(code.items()):
@@ -111,7 +123,7 @@ def loop_rows(code, call, counts):
 def unpacked(say):
     """C's passes that have no packed loop: a slow baseline would prove nothing."""
     code = functions(say, "target/contest.o")
-    passes = {name: steps for name, steps in code.items() if re.search(r"_pass$|^fused_differ$|^read_all$", name)}
+    passes = {name: steps for name, steps in code.items() if re.search(r"_pass$|^fused_(differ|restore)$|^read_all$", name)}
     packed = {n for n, steps in passes.items() for at, x in steps if touches(x) >= 16 and innermost(loops(steps), at)}
     return sorted(set(passes) - packed), sorted(packed)
 
@@ -125,10 +137,8 @@ def inspect(say, root, archive):
             raise SystemExit(f"bench: himzolven_{call} was not counted")
         for row, where in loop_rows(code, call, counts):
             rows.setdefault(row, []).append(where)
-        ran = [text for steps in code.values() for at, text in steps if counts[3].get(at)]
-        handed = sorted({m for text in ran for m in re.findall(r"<(mem\w+)@plt>", text)})
         narrow = [moved(code, counts[i], 1, 4)[0] for i in (1, 3)]
-        totals.append((call, moved(code, counts[3], 16, 64)[1], *narrow, ", ".join(handed)))
+        totals.append((call, moved(code, counts[3], 16, 64)[1], *narrow, handed(code, counts[3])))
     listed = sorted(rows.items(), key=lambda r: (r[0][7], r[0]))
     growing = [f"{row[0]} in {', '.join(calls)}" for row, calls in listed if row[7] == "grows with u"]
     return totals, [(*row, ", ".join(calls)) for row, calls in listed], growing

@@ -1,9 +1,13 @@
 """Times the byte calls beside C in one run: builds target/bytes, runs it for each case, and makes the tables."""
+import re
 import subprocess
+from pathlib import Path
 
 from tables import prose, table
 
 CASES = [(v, k, g, u) for v, k, g in ((7, 3, 3), (13, 4, 11), (21, 5, 11), (91, 10, 11)) for u in (512, 4096)]
+LARGE = [(91, 10, 13, u) for u in (512, 4096)]  # the rebuild alone
+LOSSES = ("one", "three", "2+1")
 ROUNDS = 7
 WARNINGS = ("-std=c11", "-Wall", "-Wextra", "-Werror", "-Iinclude")
 C = {"passes": "same passes", "fused": "fused C", "isal": "ISA-L"}
@@ -11,13 +15,14 @@ C_AUDIT = {"passes": "same passes", "copied": "first copied", "fused": "fused C"
 
 ABOUT = f"""
 Ratios are C time over library time from one run: above 1 the library is the faster. "Same passes": one source a pass through a
-buffer; "fused": all units in one loop (`bench/contest.c`, gcc -O3, SSE2). From memory: arrays side by side, together larger than
-the last cache, visited in turn. Hot: one unit again and again, or one array where it fits the second cache. The contestants run
-in turn, batch by batch; the figure is the median batch of a round, in the best of {ROUNDS} rounds, in time of the thread. Before
-any timing the contestants are compared: equal arrays after equal writes, equal audits after flipped bytes. A share is the time
-that the bytes take at the memory limit over the call's time: for a write 4u bytes copied (it can pass 1: memcpy reads what it
-overwrites), for an audit the array read once (most of it is in two sets). Empty: not measured, or less than a twentieth of what
-was taken off.
+buffer, or into the restored unit; "fused": all units in one loop (`bench/contest.c`, gcc -O3, SSE2). From memory: arrays side by
+side, together larger than the last cache, visited in turn. Hot: one unit again and again, or one array where it fits the second
+cache. The contestants run in turn, batch by batch; the figure is the median batch of a round, in the best of {ROUNDS} rounds, in
+time of the thread. Before any timing the contestants are compared: equal arrays after equal writes and after equal losses, equal
+audits after flipped bytes. A share is the time that the bytes take at the memory limit over the call's time: for a write 4u bytes
+copied (it can pass 1: memcpy reads what it overwrites), for an audit the array read once (most of it is in two sets), for a rebuild
+each source on a present disk read once and each restored unit set once. Empty: not measured, or less than a twentieth of what was
+taken off.
 """
 WRITE = """
 Write of whole units at scattered user units, ns: an accepted write less the same call refused by the mark of its last disk. The C
@@ -26,6 +31,13 @@ contestants run after that refused call, and it is taken off them too.
 AUDIT = """
 Audit of a formatted array, us, the design check included. C is given the places and checks nothing. Same passes: the buffer is
 cleared, then every unit of a set is XORed into it; "first copied": the first unit is copied in instead, a pass fewer.
+"""
+REBUILD = """
+Rebuild of one disk, of three disks of one group, and of two of one group and one of another, us, the design check included. C is
+given the places and checks nothing; it has the same two phases: first the passes over the flags of every tuple that a lost disk
+touches, then those passes again, with the bytes by their log. Same passes: the first source is copied over the unit, the others
+are XORed into it. From memory: a rebuild touches a small part of an array, so what it touches is flushed out of all caches, and its
+pages out of those translated, before it is timed. Hot: what it touches fits the second cache.
 """
 FORMAT = "Format, us, the check included, beside memset of array and marks, which checks nothing."
 READ = "Read of whole units, ns, less the same call refused by the mark of the data disk, beside memcpy of the unit."
@@ -51,6 +63,13 @@ def build(say, archive):
     say("gcc", *flags, "-o", "target/bytes", "bench/bytes.c", "bench/stack.c", "target/contest.o", archive, *isal)
 
 
+def fits(case):
+    """Whether there is memory for two arrays, which are compared, with some to spare."""
+    v, k, g, u = case
+    free = re.search(r"^MemAvailable:\s+(\d+) kB", Path("/proc/meminfo").read_text(), re.M)
+    return not free or 2.2 * v * g * (v - 1) // (k - 1) * g * u < 1024 * int(free[1])
+
+
 def shown(x, form="{:.2f}"):
     return "" if x is None else form.format(x)
 
@@ -59,9 +78,9 @@ class Case:
     """One case's figures: ns of each contestant by call, where and name, the bytes of an array and how many there were."""
 
     def __init__(self, say, case):
-        self.u, self.told = case[3], {}
+        self.u, self.large, self.told = case[3], case in LARGE, {}
         self.head = [case[0], case[2], case[3]]
-        for line in say("target/bytes", "time", *case).splitlines():
+        for line in say("target/bytes", "rebuild" if case in LARGE else "time", *case).splitlines():
             call, where, name, value = line.split()
             self.told[call, where, name] = float(value)
         self.bytes, self.arrays = self.told["bytes", "-", "-"], self.told["arrays", "-", "-"]
@@ -88,6 +107,25 @@ class Case:
         own = self.ns(call, "memory", "library", less)
         return shown(moved / self.rate(limit) / own if own else None)
 
+    def at(self):
+        return "v = {}, g = {}, u = {}".format(*self.head)
+
+
+class Loss(Case):
+    """A case with one of its losses."""
+
+    def __init__(self, case, lost):
+        self.__dict__.update(case.__dict__)
+        self.lost, self.head = lost, case.head + [lost]
+
+    def share_of_both(self):
+        """Of what is read at the rate of reading, and what is restored at memset's."""
+        read, written = (self.told["moved", self.lost, n] for n in ("read", "written"))
+        return shown((read / self.rate("read") + written / self.rate("memset")) / self.ns(self.lost, "memory"))
+
+    def at(self):
+        return f"{super().at()}, lost {self.lost}"
+
 
 def write_row(c):
     row = [shown(c.ns("write", "memory", n, n == "library"), "{:.0f}") for n in ("refused", "library")]
@@ -98,6 +136,11 @@ def write_row(c):
 def audit_row(c):
     row = [f"{c.ns('audit', 'memory', n) / 1000:.1f}" for n in ("library", "refused")]
     return row + c.ratios("audit", "memory", C_AUDIT) + [c.share("audit", c.bytes, "read")] + c.ratios("audit", "hot", C_AUDIT)
+
+
+def rebuild_row(c):
+    row = [f"{c.ns(c.lost, 'memory', n) / 1000:.1f}" for n in ("library", "refused")]
+    return row + c.ratios(c.lost, "memory", C) + [c.share_of_both()] + c.ratios(c.lost, "hot", C)
 
 
 def format_row(c):
@@ -117,39 +160,49 @@ def limit_row(c):
 
 
 def part(about, heads, row, cases):
-    return ["", prose(about), "", *table(["v", "g", "u"] + heads, [c.head + row(c) for c in cases])]
+    first = ["v", "g", "u", "lost"][: len(cases[0].head)]
+    return ["", prose(about), "", *table(first + heads, [c.head + row(c) for c in cases])]
 
 
 def verdict(what, least, got):
     """What was asked for, the lowest, and where it is missed."""
-    missed = ["v = {}, g = {}, u = {}: ".format(*c.head) + (shown(r) or "lost") for c, r in got if not r or r < least]
+    missed = [f"{c.at()}: " + (shown(r) or "not told") for c, r in got if not r or r < least]
     lowest = min((r for _, r in got if r), default=0)
     return f"- {what}: at least {least} asked, lowest {lowest:.2f}" + (f"; missed at {'; '.join(missed)}." if missed else ".")
 
 
-def verdicts(cases):
+def verdicts(cases, losses):
     def got(call, name, less=False, sizes=(512, 4096)):
         return [(c, c.ratio(call, "memory", name, less)) for c in cases if c.u in sizes]
 
+    def rebuilt(name, sizes=(512, 4096)):
+        return [(c, c.ratio(c.lost, "memory", name)) for c in losses if c.u in sizes]
+
     out = [verdict("write from memory, beside C with the same passes", 1.2, got("write", "passes", True))]
     out += [verdict("audit from memory, beside C with the same passes", 1.2, got("audit", "passes"))]
+    out += [verdict("rebuild from memory, beside C with the same passes", 1.2, rebuilt("passes"))]
     out += [verdict("format from memory, beside memset", 0.9, got("format", "memset"))]
     if ("write", "memory", "isal") in cases[0].told:
         out += [verdict("write from memory at u = 4096, beside ISA-L", 0.9, got("write", "isal", True, [4096]))]
         out += [verdict("audit from memory at u = 4096, beside ISA-L", 0.9, got("audit", "isal", sizes=[4096]))]
+        out += [verdict("rebuild from memory at u = 4096, beside ISA-L", 0.9, rebuilt("isal", [4096]))]
     return out
 
 
-def report(cases):
+def report(told):
     c, d = list(C.values()), list(C_AUDIT.values())
-    out = [prose(ABOUT), ""] + verdicts(cases)
+    cases, losses = [x for x in told if not x.large], [Loss(x, lost) for x in told for lost in LOSSES]
+    out = [prose(ABOUT), ""] + verdicts(cases, losses)
+    if len(told) < len(CASES + LARGE):
+        out += ["- The largest arrays are left out: they need more memory than there was."]
     out += part(WRITE, ["refused call", "write"] + c + ["share of memcpy", "hot: write"] + c, write_row, cases)
     out += part(AUDIT, ["audit", "check in it"] + d + ["share of read", "hot: " + d[0]] + d[1:], audit_row, cases)
+    out += part(REBUILD, ["rebuild", "check in it"] + c + ["share of the limit", "hot: " + c[0]] + c[1:], rebuild_row, losses)
     out += part(FORMAT, ["format", "check in it", "memset", "share of memset", "hot: memset"], format_row, cases)
     out += part(READ, ["refused call", "read", "memcpy", "share of read", "hot: read", "memcpy"], read_row, cases)
-    return out + part(LIMITS, ["array, MB", "arrays in turn", "memcpy", "memset", "read"], limit_row, cases)
+    return out + part(LIMITS, ["array, MB", "arrays in turn", "memcpy", "memset", "read"], limit_row, told)
 
 
 def stacks(say):
     rows = [[*case, *say("target/bytes", "stack", *case).split()] for case in CASES]
-    return table(["v", "k", "g", "u", "format", "read", "write", "audit"], rows)
+    return table(["v", "k", "g", "u", "format", "read", "write", "audit", "rebuild"], rows)
