@@ -172,8 +172,12 @@ static void run_rebuild(const contestant *me, uint32_t calls) {
     }
 }
 
-__attribute__((target("clflushopt"))) static void flush_unit(const uint8_t *p, size_t n) {
-    for (size_t i = 0; i < n; i += 64) _mm_clflushopt((void *)(uintptr_t)(p + i));
+/* clflush does the same, where clflushopt is not known, but a line at a time */
+__attribute__((target("clflushopt"))) static void flush_unit(uint8_t *p, size_t n) {
+    int fast = __builtin_cpu_supports("clflushopt");
+    for (size_t i = 0; i < n; i += 64)
+        if (fast) _mm_clflushopt(p + i);
+        else _mm_clflush(p + i);
 }
 
 static void flush_restore(uint8_t *array, size_t target, const size_t *sources, size_t count, size_t u) {
