@@ -131,3 +131,8 @@ module _ {G : Geometry} {d : List ℕ} {t : ℕ} {log : List ℕ} {count : ℕ} 
         one-more =
             r ∙ ap (λ (qs : List ℕ). entryBytes G qs t e a) p
             ∙ next-entry G d t log i a₀ a e (f .is) read (entry-step G d L t ht e (logged-low l e i read h) a)
+
+-- a log of no entries
+pub no-entries : (G : Geometry) (d : List ℕ) (t : ℕ) (log : List ℕ) (n : ℕ) (a : List ℕ) → n ≡ 0 → a ≡ replayed G d t (logSteps G t log n) a
+unfolding replayed logSteps
+no-entries G d t log n a e = rw e

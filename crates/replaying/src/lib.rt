@@ -72,8 +72,8 @@ fn replay_step(
     replay_inner(geometry, disk, regions, at, array);
 }
 
-// The bytes of what the passes restored in a tuple, by their log, oldest first.
-pub fn replay(
+// The entries of a log, oldest first.
+fn replay_entries(
     geometry: Geometry,
     design: &[u16],
     tuple: Tuple,
@@ -98,4 +98,26 @@ pub fn replay(
         replay_step(geometry, disk, regions, tuple, wide(log[i]), array);
         i += 1;
     }
+}
+
+// The bytes of what the passes restored in a tuple, by their log. Where nothing was, the design is not read.
+pub fn replay(
+    geometry: Geometry,
+    design: &[u16],
+    tuple: Tuple,
+    log: &[u16],
+    count: usize,
+    array: &mut [u8],
+)
+    requires { ⌜ Laid geometry (now design) ⌝ }
+    requires { ⌜ tuple .0 < tuplesOf geometry ⌝ }
+    requires { ⌜ LogIn geometry (now log) count ⌝ }
+    requires { ⌜ length (now array) ≡ bytesOf geometry ⌝ }
+    ensures { λ _. ⌜ now (array .exit) ≡ replayed geometry (now (design .entry)) (tuple .0)
+        (logSteps geometry (tuple .0) (now (log .entry)) count) (now (array .entry)) ⌝ }
+{
+    if count == 0 {
+        return;
+    }
+    replay_entries(geometry, design, tuple, log, count, array);
 }
