@@ -7,4 +7,5 @@ pub mod Accepted
 pub mod Counts
 pub mod Hits
 pub mod Shares
+pub mod Changes
 pub mod Theorems

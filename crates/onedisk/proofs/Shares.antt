@@ -63,7 +63,7 @@ module _ (G : Geometry) (d : List ℕ) (L : Laid G d) (x : ℕ) (hx : x < disksO
   source y e = sourceOf G (at y) e
 
   -- a test fails where a hit is absurd
-  no-hit : (f : Triple → Bool) (y e : ℕ) → y < unitsOf G → e < sizeOf G (at y) → (Hit G d x L hx f y e → ⊥) → hit G d x f y e ≡ false
+  pub no-hit : (f : Triple → Bool) (y e : ℕ) → y < unitsOf G → e < sizeOf G (at y) → (Hit G d x L hx f y e → ⊥) → hit G d x f y e ≡ false
   no-hit f y e hy he none =
       ⊎-elim (λ (w : hit G d x f y e ≡ true). absurd (none (hit-is G d x L hx f y e hy he w)))
       (λ (w : hit G d x f y e ≡ false). w) (bool-either (hit G d x f y e))
@@ -123,7 +123,7 @@ module _ (G : Geometry) (d : List ℕ) (L : Laid G d) (x : ℕ) (hx : x < disksO
       absurd (p .other
       (ap (λ (s : Cell). s .position) same ∙ sym (same-position G d x L hx z y (ap (λ (s : Cell). s .tuple .0) same))))
 
-  source-valid :
+  pub source-valid :
       (y e : ℕ) → OuterSource G (at y) e (source y e) ⊎ InnerSource G (at y) e (source y e) → CellIn G (source y e)
   source-valid y e (inl o) = o .valid
   source-valid y e (inr o) = o .valid

@@ -7,3 +7,4 @@ pub use Rattle.onedisk.proofs.Accepted.{
   the-rebuilt-disk-is-the-XOR-of-the-plan,
 }
 pub use Rattle.onedisk.proofs.Shares.{each-disk-gives-its-share}
+pub use Rattle.onedisk.proofs.Changes.{a-changed-byte-changes-what-the-plan-says}

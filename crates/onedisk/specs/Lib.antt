@@ -1,4 +1,5 @@
 pub mod OneDisk
 pub mod Sources
+pub mod Changes
 pub mod Calls
 pub mod Theorems

@@ -20,6 +20,7 @@ use Rattle.planning.specs.declared.Planned.the-variants.{Triples}
 use Rattle.planning.specs.Plan.{triplesOf}
 use Rattle.onedisk.specs.OneDisk.{OneLost, diskSteps}
 use Rattle.onedisk.specs.Sources.{triplesIn, sourceSum, Shares}
+use Rattle.onedisk.specs.Changes.{OneByteDiffers, Follows}
 use Rattle.onedisk.specs.Calls.{Rebuilds, Plans, Ready}
 
 -- "A missing unit whose outer set lacks only it becomes the XOR of the rest; otherwise, if its inner set lacks only it": with
@@ -71,3 +72,12 @@ The-rebuilt-disk-is-the-XOR-of-the-plan =
 abbrev pub Each-disk-gives-its-share : Type 0
 Each-disk-gives-its-share =
     (G : Geometry) (d : List ℕ) → Laid G d → (x : ℕ) → x < disksOf G → Shares G x (triplesIn (planOf G d x))
+
+-- ---- what a change does
+
+-- "A byte changed in a planned unit changes one byte of the rebuilt disk; a byte changed in another unit changes none."
+abbrev pub A-changed-byte-changes-what-the-plan-says : Type 0
+A-changed-byte-changes-what-the-plan-says =
+    (G : Geometry) (d marks a b : List ℕ) (x : ℕ) → Laid G d → OneLost G marks x → length a ≡ bytesOf G →
+    (z w j e : ℕ) → OneByteDiffers G a b z w j e →
+    Follows G x (triplesIn (planOf G d x)) (rebuiltOf G d marks a) (rebuiltOf G d marks b) z w j e
