@@ -8,3 +8,5 @@ pub mod Rebuilds
 pub mod Kept
 pub mod Demand
 pub mod Made
+pub mod Steps
+pub mod Example

@@ -143,8 +143,8 @@ module _ (G : Geometry) (d : List ℕ) where
   again _ _ (more es s h e t p) = again-step es s t e p (again es s h)
 
   -- where nothing is marked the array is the ideal
-  whole : (t : State) (es : List Event) (k : Keeps G d es t) → t .marks ≡ replicate (disksOf G) 0 → t .array ≡ k .ideal
-  whole t es k z =
+  pub nothing-marked : (t : State) (es : List Event) (k : Keeps G d es t) → t .marks ≡ replicate (disksOf G) 0 → t .array ≡ k .ideal
+  nothing-marked t es k z =
       ext-getD 0 (t .array) (k .ideal) (k .array-long ∙ sym (k .is-ideal .long))
       (λ (p : ℕ) (l : p < length (t .array)).
       k .present p (omega (arith, k .array-long))
@@ -159,7 +159,7 @@ the-ideal-is-what-format-and-writes-make G d es t h a I =
       made = w .end;
       history = w .history;
       array =
-          whole G d (w .end) fs k (w .marks)
+          nothing-marked G d (w .end) fs k (w .marks)
           ∙ the-ideal-is-one G d (k .laid) es (k .ideal) a
           (ideal-on G d fs es (λ m j. sym (last-same es m j)) (k .ideal) (k .is-ideal)) I;
       marks = w .marks;

@@ -15,6 +15,7 @@ use Rattle.histories.specs.Histories.{State, Event, wasRead, rebuilt}
 use Rattle.histories.specs.Histories.{diskOf, markedDisks, Step, History, refusedCall}
 use Rattle.histories.specs.Ideal.{lastWritten, Ideal}
 use Rattle.histories.specs.Made.{Made}
+use Rattle.histories.specs.Example.{pairs, rows, events, left}
 
 -- dropping the newest event leaves a history, and a step from where it ended
 abbrev pub A-history-without-its-newest-event-is-one : Type 0
@@ -76,3 +77,11 @@ Demand-2 = (G : Geometry) (d : List ℕ) (es : List Event) (t : State) → Histo
 abbrev pub The-ideal-is-what-format-and-writes-make : Type 0
 The-ideal-is-what-format-and-writes-make =
     (G : Geometry) (d : List ℕ) (es : List Event) (t : State) → History G d es t → (a : List ℕ) → Ideal G d es a → Made G d es a
+
+-- none of this is empty: thirteen events, with the numbers of their answers, and the 108 bytes that they leave
+pub record ByNumbers : Type 0 where
+  pub history : History pairs rows events (record { array = left; marks = replicate 9 0 })
+  pub ideal : Ideal pairs rows events left
+
+abbrev pub A-history-by-numbers : Type 0
+A-history-by-numbers = ByNumbers
