@@ -308,6 +308,7 @@ static contestant rebuild_race[] = {
     {.name = "refused", .run = run_rebuild, .refuse = 1},
     {.name = "library", .run = run_rebuild, .before = &flush},
     {.name = "passes", .run = run_rebuild, .restores = passes_restore, .before = &flush},
+    {.name = "copied", .run = run_rebuild, .restores = copied_restore, .before = &flush},
     {.name = "fused", .run = run_rebuild, .restores = fused_restore, .before = &flush},
     ISAL_REBUILD
 };
@@ -359,7 +360,7 @@ static void fill_lost(uint8_t *array, uint64_t seed) {
     for (uint32_t z = 0; z < lost->count; z++) fill_random(array + lost->disk[z] * s.disk_bytes, s.disk_bytes, seed + z);
 }
 
-static restorer *const restorers[] = {passes_restore, fused_restore,
+static restorer *const restorers[] = {passes_restore, copied_restore, fused_restore,
 #ifdef WITH_ISAL
     isal_restore,
 #endif

@@ -227,6 +227,11 @@ int copied_differ(const uint8_t *array, const size_t *starts, size_t count, size
 }
 
 void passes_restore(uint8_t *array, size_t target, const size_t *sources, size_t count, size_t u) {
+    memset(array + target, 0, u);
+    for (size_t t = 0; t < count; t++) xor_pass(array + target, array + sources[t], u);
+}
+
+void copied_restore(uint8_t *array, size_t target, const size_t *sources, size_t count, size_t u) {
     memcpy(array + target, array + sources[0], u);
     for (size_t t = 1; t < count; t++) xor_pass(array + target, array + sources[t], u);
 }

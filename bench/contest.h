@@ -48,7 +48,7 @@ void make_consistent(const shape *s, uint8_t *array, restorer *restores);
 writer passes_write;
 tester passes_differ;
 /* one source a pass, into the unit itself: a copy of the first, an XOR for each other */
-restorer passes_restore;
+restorer passes_restore, copied_restore;
 /* the same, with a copy of the first source in place of a clear and an XOR */
 tester copied_differ;
 /* all units in one loop */

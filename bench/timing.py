@@ -11,7 +11,7 @@ LOSSES = ("one", "three", "2+1")
 ROUNDS = 7
 WARNINGS = ("-std=c11", "-Wall", "-Wextra", "-Werror", "-Iinclude")
 C = {"passes": "same passes", "fused": "fused C", "isal": "ISA-L"}
-C_AUDIT = {"passes": "same passes", "copied": "first copied", "fused": "fused C", "isal": "ISA-L"}
+C_COPIED = {"passes": "same passes", "copied": "first copied", "fused": "fused C", "isal": "ISA-L"}
 
 ABOUT = f"""
 Ratios are C time over library time from one run: above 1 the library is the faster. "Same passes": one source a pass through a
@@ -35,8 +35,8 @@ cleared, then every unit of a set is XORed into it; "first copied": the first un
 REBUILD = """
 Rebuild of one disk, of three disks of one group, and of two of one group and one of another, us, the design check included. C is
 given the places and checks nothing; it has the same two phases: first the passes over the flags of every tuple that a lost disk
-touches, then those passes again, with the bytes by their log. Same passes: the first source is copied over the unit, the others
-are XORed into it. From memory: a rebuild touches a small part of an array, so what it touches is flushed out of all caches, and its
+touches, then those passes again, with the bytes by their log. Same passes, as of the audit: the unit is cleared, then every source is
+XORed into it; "first copied": the first source is copied over it instead, a pass fewer. From memory: a rebuild touches a small part of an array, so what it touches is flushed out of all caches, and its
 pages out of those translated, before it is timed. Hot: what it touches fits the second cache.
 """
 FORMAT = "Format, us, the check included, beside memset of array and marks, which checks nothing."
@@ -135,12 +135,12 @@ def write_row(c):
 
 def audit_row(c):
     row = [f"{c.ns('audit', 'memory', n) / 1000:.1f}" for n in ("library", "refused")]
-    return row + c.ratios("audit", "memory", C_AUDIT) + [c.share("audit", c.bytes, "read")] + c.ratios("audit", "hot", C_AUDIT)
+    return row + c.ratios("audit", "memory", C_COPIED) + [c.share("audit", c.bytes, "read")] + c.ratios("audit", "hot", C_COPIED)
 
 
 def rebuild_row(c):
     row = [f"{c.ns(c.lost, 'memory', n) / 1000:.1f}" for n in ("library", "refused")]
-    return row + c.ratios(c.lost, "memory", C) + [c.share_of_both()] + c.ratios(c.lost, "hot", C)
+    return row + c.ratios(c.lost, "memory", C_COPIED) + [c.share_of_both()] + c.ratios(c.lost, "hot", C_COPIED)
 
 
 def format_row(c):
@@ -190,14 +190,14 @@ def verdicts(cases, losses):
 
 
 def report(told):
-    c, d = list(C.values()), list(C_AUDIT.values())
+    c, d = list(C.values()), list(C_COPIED.values())
     cases, losses = [x for x in told if not x.large], [Loss(x, lost) for x in told for lost in LOSSES]
     out = [prose(ABOUT), ""] + verdicts(cases, losses)
     if len(told) < len(CASES + LARGE):
         out += ["- The largest arrays are left out: they need more memory than there was."]
     out += part(WRITE, ["refused call", "write"] + c + ["share of memcpy", "hot: write"] + c, write_row, cases)
     out += part(AUDIT, ["audit", "check in it"] + d + ["share of read", "hot: " + d[0]] + d[1:], audit_row, cases)
-    out += part(REBUILD, ["rebuild", "check in it"] + c + ["share of the limit", "hot: " + c[0]] + c[1:], rebuild_row, losses)
+    out += part(REBUILD, ["rebuild", "check in it"] + d + ["share of the limit", "hot: " + d[0]] + d[1:], rebuild_row, losses)
     out += part(FORMAT, ["format", "check in it", "memset", "share of memset", "hot: memset"], format_row, cases)
     out += part(READ, ["refused call", "read", "memcpy", "share of read", "hot: read", "memcpy"], read_row, cases)
     return out + part(LIMITS, ["array, MB", "arrays in turn", "memcpy", "memset", "read"], limit_row, told)
