@@ -24,8 +24,8 @@ use Rattle.leaves.proofs.Xor.{xor-swap, xor-assoc, xor-cancel}
 use Rattle.rebuilding.specs.Rebuild.{rebuiltOf}
 use Rattle.sources.specs.Plan.{planOf}
 use Rattle.onedisk.specs.OneDisk.{OneLost}
-use Rattle.onedisk.specs.Sources.{Triple, triplesIn, sourceByte, sourceSum, countIn, onDisk, isUnit}
-use Rattle.onedisk.specs.Changes.{byteOf, OneByteDiffers, DiskStays, DiskDiffers, IsTriple, Follows}
+use Rattle.onedisk.specs.Sources.{byteOf, Triple, triplesIn, sourceByte, sourceSum, countIn, onDisk, isUnit}
+use Rattle.onedisk.specs.Changes.{OneByteDiffers, DiskStays, DiskDiffers, IsTriple, Follows}
 use Rattle.onedisk.specs.Theorems.{A-changed-byte-changes-what-the-plan-says}
 use Rattle.onedisk.proofs.Planned.{each-rebuilt-byte-is-the-XOR-of-its-planned-sources}
 use Rattle.onedisk.proofs.Counts.{tripleAt, total-none}

@@ -3,9 +3,9 @@ pub mod Marked
 pub mod Column
 pub mod Triples
 pub mod Planned
-pub mod Accepted
 pub mod Counts
 pub mod Hits
 pub mod Shares
 pub mod Changes
+pub mod Accepted
 pub mod Theorems

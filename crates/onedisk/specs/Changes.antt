@@ -10,11 +10,7 @@ use Rattle.geometry.specs.declared.Geometry.{Geometry}
 use Rattle.geometry.specs.Geometry.{disksOf, unitsOf}
 use Rattle.layout.specs.Places.{place}
 use Rattle.array.specs.Array.{startOf}
-use Rattle.onedisk.specs.Sources.{Triple}
-
--- the byte at offset j of unit y of disk x
-abbrev pub byteOf : Geometry → (a : List ℕ) → (x y j : ℕ) → ℕ
-byteOf G a x y j = getD a (startOf G (place x y) + j) 0
+use Rattle.onedisk.specs.Sources.{byteOf, Triple}
 
 -- array b is array a but for one byte, at offset j of unit w of disk z, which differs by e
 pub record OneByteDiffers (G : Geometry) (a b : List ℕ) (z w j e : ℕ) : Type 0 where

@@ -13,6 +13,10 @@ use Rattle.geometry.specs.Geometry.{partsOf, disksOf}
 use Rattle.layout.specs.Places.{place}
 use Rattle.array.specs.Array.{startOf}
 
+-- the byte at offset j of unit y of disk x
+abbrev pub byteOf : Geometry → (a : List ℕ) → (x y j : ℕ) → ℕ
+byteOf G a x y j = getD a (startOf G (place x y) + j) 0
+
 -- "the triple: unit restored, source disk, source unit"
 pub record Triple : Type 0 where
   pub restores : ℕ
@@ -28,7 +32,7 @@ triplesIn (y ∷ x ∷ z ∷ rest) = record { restores = y; disk = x; unit = z }
 
 -- the byte at offset j of a triple's source
 abbrev pub sourceByte : Geometry → (a : List ℕ) → (j : ℕ) → Triple → ℕ
-sourceByte G a j s = getD a (startOf G (place (s .disk) (s .unit)) + j) 0
+sourceByte G a j s = byteOf G a (s .disk) (s .unit) j
 
 -- the XOR of the bytes at offset j of the sources of the triples that restore unit y
 unfoldable pub sourceSum : Geometry → (a : List ℕ) → (j y : ℕ) → List Triple → ℕ

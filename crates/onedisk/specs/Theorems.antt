@@ -1,15 +1,13 @@
 -- What is proved of an array with one disk lost, each under its sentence of 00 or 01: the statements alone. Assumes nothing.
-use Prim.Native.Nat.{ℕ, _+_, _*_, _≤_, _<_}
+use Prim.Native.Nat.{ℕ, _*_, _≤_, _<_}
 use mathlib.Core.Path.{_≡_}
 use mathlib.Core.List.{List}
-use lib.ListN.{getD, length, take}
+use lib.ListN.{length, take}
 use contract.Lifetimes.{Lfts}
 use denote.Ref.{RefT, now}
 use Rattle.geometry.specs.declared.Geometry.{Geometry}
 use Rattle.geometry.specs.Geometry.{tuplesOf, disksOf, unitsOf, bytesOf}
 use Rattle.design.specs.Design.{Laid}
-use Rattle.layout.specs.Places.{place}
-use Rattle.array.specs.Array.{startOf}
 use Rattle.reaching.specs.Reach.{stepsOf}
 use Rattle.rebuilding.specs.declared.Rebuilt.{Rebuilt}
 use Rattle.rebuilding.specs.declared.Rebuilt.the-variants.{Restored}
@@ -19,9 +17,9 @@ use Rattle.planning.specs.declared.Planned.{Planned}
 use Rattle.planning.specs.declared.Planned.the-variants.{Triples}
 use Rattle.planning.specs.Plan.{triplesOf}
 use Rattle.onedisk.specs.OneDisk.{OneLost, diskSteps}
-use Rattle.onedisk.specs.Sources.{triplesIn, sourceSum, Shares}
+use Rattle.onedisk.specs.Sources.{byteOf, triplesIn, sourceSum, Shares}
 use Rattle.onedisk.specs.Changes.{OneByteDiffers, Follows}
-use Rattle.onedisk.specs.Calls.{Rebuilds, Plans, Ready}
+use Rattle.onedisk.specs.Calls.{Rebuilds, Plans, Ready, AsPlanned}
 
 -- "A missing unit whose outer set lacks only it becomes the XOR of the rest; otherwise, if its inner set lacks only it": with
 -- disk x lost, each tuple that names its group restores the g units of x's column, row by row upwards, from their outer
@@ -37,33 +35,7 @@ abbrev pub Each-rebuilt-byte-is-the-XOR-of-its-planned-sources : Type 0
 Each-rebuilt-byte-is-the-XOR-of-its-planned-sources =
     (G : Geometry) (d marks a : List ℕ) (x : ℕ) → Laid G d → OneLost G marks x → length a ≡ bytesOf G →
     (y j : ℕ) → y < unitsOf G → j < G .u →
-    getD (rebuiltOf G d marks a) (startOf G (place x y) + j) 0 ≡ sourceSum G a j y (triplesIn (planOf G d x))
-
--- ---- over the contracts of the calls
-
--- "Rebuild is accepted": only the number of the disk's units can be answered
-abbrev pub One-lost-disk-is-rebuilt : Type 0
-One-lost-disk-is-rebuilt =
-    (κs : Lfts 3) (G : Geometry) (design array marks : RefT (List ℕ)) (x : ℕ) → Ready G design array marks x →
-    (r : Rebuilt) (bytes left : RefT (List ℕ)) → Rebuilds κs G design array marks r bytes left → r ≡ Restored (unitsOf G)
-
--- and the plan, of a list that is not shorter than 3·r(g-1)k: only r(g-1)k can be
-abbrev pub The-lost-disk-is-planned : Type 0
-The-lost-disk-is-planned =
-    (κs : Lfts 2) (G : Geometry) (design array marks : RefT (List ℕ)) (x : ℕ) → Ready G design array marks x →
-    (list : RefT (List ℕ)) → 3 * triplesOf G ≤ length (now list) → (r : Planned) (last : RefT (List ℕ)) →
-    Plans κs G design x list r last → r ≡ Triples (triplesOf G)
-
--- each byte of the disk that rebuild leaves is the XOR of those at its offset in the sources that the plan's triples, which the
--- plan call leaves in its list, give for its unit, as the array held them before
-abbrev pub The-rebuilt-disk-is-the-XOR-of-the-plan : Type 0
-The-rebuilt-disk-is-the-XOR-of-the-plan =
-    (κs : Lfts 3) (κp : Lfts 2) (G : Geometry) (design array marks list : RefT (List ℕ)) (x : ℕ) → OneLost G (now marks) x →
-    (m : ℕ) (bytes left : RefT (List ℕ)) → Rebuilds κs G design array marks (Restored m) bytes left →
-    (n : ℕ) (last : RefT (List ℕ)) → Plans κp G design x list (Triples n) last →
-    (y j : ℕ) → y < unitsOf G → j < G .u →
-    getD (now bytes) (startOf G (place x y) + j) 0
-    ≡ sourceSum G (now array) j y (triplesIn (take (3 * n) (now last)))
+    byteOf G (rebuiltOf G d marks a) x y j ≡ sourceSum G a j y (triplesIn (planOf G d x))
 
 -- ---- what the plan reads
 
@@ -81,3 +53,27 @@ A-changed-byte-changes-what-the-plan-says =
     (G : Geometry) (d marks a b : List ℕ) (x : ℕ) → Laid G d → OneLost G marks x → length a ≡ bytesOf G →
     (z w j e : ℕ) → OneByteDiffers G a b z w j e →
     Follows G x (triplesIn (planOf G d x)) (rebuiltOf G d marks a) (rebuiltOf G d marks b) z w j e
+
+-- ---- over the contracts of the calls
+
+-- "Rebuild is accepted": only the number of the disk's units can be answered
+abbrev pub One-lost-disk-is-rebuilt : Type 0
+One-lost-disk-is-rebuilt =
+    (κs : Lfts 3) (G : Geometry) (design array marks : RefT (List ℕ)) (x : ℕ) → Ready G design array marks x →
+    (r : Rebuilt) (bytes left : RefT (List ℕ)) → Rebuilds κs G design array marks r bytes left → r ≡ Restored (unitsOf G)
+
+-- and the plan, of a list that is not shorter than 3·r(g-1)k: only r(g-1)k can be
+abbrev pub The-lost-disk-is-planned : Type 0
+The-lost-disk-is-planned =
+    (κs : Lfts 2) (G : Geometry) (design array marks : RefT (List ℕ)) (x : ℕ) → Ready G design array marks x →
+    (list : RefT (List ℕ)) → 3 * triplesOf G ≤ length (now list) → (r : Planned) (last : RefT (List ℕ)) →
+    Plans κs G design x list r last → r ≡ Triples (triplesOf G)
+
+-- demand 3: what rebuild leaves of the lost disk is what the plan, as the plan call leaves it, says
+abbrev pub Demand-3 : Type 0
+Demand-3 =
+    (κs κt : Lfts 3) (κp : Lfts 2) (G : Geometry) (design array marks list : RefT (List ℕ)) (x : ℕ) →
+    Ready G design array marks x → 3 * triplesOf G ≤ length (now list) →
+    (r : Rebuilt) (bytes left : RefT (List ℕ)) → Rebuilds κs G design array marks r bytes left →
+    (q : Planned) (last : RefT (List ℕ)) → Plans κp G design x list q last →
+    AsPlanned κt G design array marks x bytes (triplesIn (take (3 * triplesOf G) (now last)))
