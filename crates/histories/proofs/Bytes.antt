@@ -1,7 +1,7 @@
 -- The bytes of disks and the units of places; and XOR into two arrays at once. Assumes nothing.
 use Prim.Native.Nat.{ℕ, zero, suc, _+_, _*_, _≤_, _<_}
 use mathlib.Core.Path.{_≡_, refl, sym, ap, subst, _∙_}
-use mathlib.Core.Bool.{true, false}
+use mathlib.Core.Bool.{false}
 use mathlib.Core.List.{List, [], _∷_}
 use native.Mathlib.Nat.{add-mul, mul-assoc, add-assoc, div-lt-iff-lt-mul}
 use native.Mathlib.Omega.{arith}
@@ -16,12 +16,12 @@ use Rattle.layout.specs.declared.Place.{Place}
 use Rattle.layout.specs.Ranges.{PlaceIn}
 use Rattle.layout.specs.Marks.{lost}
 use Rattle.layout.proofs.Theorems.{a-unit-is-lost-with-its-disk}
-use Rattle.leaves.specs.Bytes.{run, addAt, addAll, laid}
+use Rattle.leaves.specs.Bytes.{addAt, addAll, laid}
 use Rattle.leaves.proofs.Runs.{bytes-run, same-bytes, at-addAt, length-addAt}
 use Rattle.array.specs.Array.{startOf}
 use Rattle.array.proofs.Starts.{start-in}
 use Rattle.consistent.proofs.Units.{factor-pos}
-use Rattle.rebuilding.specs.Theorems.{unitAt, SamePresent}
+use Rattle.rebuilding.specs.Theorems.{SamePresent}
 use Rattle.histories.specs.Histories.{diskOf}
 use Rattle.histories.specs.Theorems.{SamePresentBytes}
 

@@ -1,17 +1,16 @@
 -- Demand 2: what is so after every history. Assumes nothing.
-use Prim.Native.Nat.{ℕ, _+_, _*_, _≤_, _<_}
+use Prim.Native.Nat.{ℕ, _+_, _*_, _<_}
 use mathlib.Core.Path.{_≡_, refl, sym, ap, subst, _∙_}
-use mathlib.Core.List.{List, [], _∷_}
+use mathlib.Core.List.{List}
 use native.Mathlib.Nat.{add-assoc}
 use native.Mathlib.Omega.{arith}
 use lib.ListN.{getD, length, replicate}
-use contract.Lifetimes.{Lfts}
 use denote.Ref.{RefT, now, at-last}
 use Rattle.refusal.specs.declared.Checked.the-variants.{Fine}
 use Rattle.refusal.specs.Refusal.{accepted, verdict}
 use Rattle.geometry.specs.declared.Geometry.{Geometry}
 use Rattle.geometry.specs.declared.UserUnit.{UserUnit}
-use Rattle.geometry.specs.Geometry.{disksOf, unitsOf, bytesOf}
+use Rattle.geometry.specs.Geometry.{disksOf, unitsOf}
 use Rattle.cells.specs.Roles.{userCell}
 use Rattle.leaves.proofs.Runs.{at-run, length-run}
 use Rattle.array.specs.Array.{cellStart}
@@ -21,7 +20,7 @@ use Rattle.fourfold.proofs.Starts.{user-in, range-in}
 use Rattle.rebuilding.specs.declared.Rebuilt.{Rebuilt}
 use Rattle.rebuilding.specs.declared.Rebuilt.the-variants as Rebuild
 use Rattle.rebuilding.proofs.TwoResults.{some-result}
-use Rattle.histories.specs.Histories.{State, Event, wasRead, rebuilt, markedDisks, ReadStep, Step, History, start, more}
+use Rattle.histories.specs.Histories.{State, Event, rebuilt, markedDisks, ReadStep, Step, History, start, more}
 use Rattle.histories.specs.Ideal.{lastWritten}
 use Rattle.histories.specs.Theorems.{Keeps, A-history-without-its-newest-event-is-one, Demand-2}
 use Rattle.histories.proofs.One.{the-ideal-is-one}

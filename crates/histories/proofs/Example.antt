@@ -158,4 +158,11 @@ unfolding disksOf
 is-ideal = nothing-marked pairs rows good events keeps refl
 
 pub a-history-by-numbers : A-history-by-numbers
-a-history-by-numbers = record { history = by-numbers; ideal = subst (Ideal pairs rows events) (sym is-ideal) (keeps .is-ideal) }
+a-history-by-numbers =
+    record {
+      history = by-numbers;
+      ideal = subst (Ideal pairs rows events) (sym is-ideal) (keeps .is-ideal);
+      unit-0 = (refl, refl);
+      unit-13 = (refl, refl);
+      unit-17 = refl;
+    }

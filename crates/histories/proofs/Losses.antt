@@ -2,7 +2,7 @@
 use Prim.Native.Nat.{ℕ, _≤_, _<_}
 use mathlib.Core.Path.{_≡_, refl, sym, _∙_}
 use mathlib.Core.Logic.{⊎-elim}
-use mathlib.Core.List.{List, [], _∷_}
+use mathlib.Core.List.{List, _∷_}
 use native.Mathlib.Omega.{arith}
 use lib.ListN.{getD}
 use Rattle.geometry.specs.declared.Geometry.{Geometry}
@@ -37,15 +37,11 @@ module _ (G : Geometry) (d : List ℕ) (es fs : List Event) (same : (m j : ℕ) 
 
 module _ (G : Geometry) (d : List ℕ) (es : List Event) (s t : State) (k : Keeps G d es s) (l : Loss G s t) where
   low-after : (x : ℕ) → x < disksOf G → getD (t .marks) x 0 ≤ 1
-  low-after x h =
-      ⊎-elim (λ (e : getD (t .marks) x 0 ≡ getD (s .marks) x 0). omega (arith, k .marks-low x h))
-      (λ (e : getD (t .marks) x 0 ≡ 1). omega arith) (l .mark x h)
+  low-after x h = ⊎-elim (λ e. omega (arith, e, k .marks-low x h)) (λ e. omega (arith, e)) (l .mark x h)
 
   -- a disk that is not marked after it was not before
   mark-before : (x : ℕ) → x < disksOf G → getD (t .marks) x 0 ≡ 0 → getD (s .marks) x 0 ≡ 0
-  mark-before x h z =
-      ⊎-elim (λ (e : getD (t .marks) x 0 ≡ getD (s .marks) x 0). sym e ∙ z)
-      (λ (e : getD (t .marks) x 0 ≡ 1). omega arith) (l .mark x h)
+  mark-before x h z = ⊎-elim (λ e. omega (arith, e, z)) (λ e. omega (arith, e, z)) (l .mark x h)
 
   pub keeps-loss : Keeps G d (lost ∷ es) t
   keeps-loss =
@@ -59,6 +55,6 @@ module _ (G : Geometry) (d : List ℕ) (es : List Event) (s t : State) (k : Keep
         is-ideal = ideal-on G d es (lost ∷ es) (λ m j. refl) (k .ideal) (k .is-ideal);
         present =
             λ (p : ℕ) (low : p < bytesOf G) (z : getD (t .marks) (diskOf G p) 0 ≡ 0).
-            l .byte p low (λ (e : getD (t .marks) (diskOf G p) 0 ≡ 1). omega arith)
+            l .byte p low (λ e. omega (arith, e, z))
             ∙ k .present p low (mark-before (diskOf G p) (disk-of-low G p low) z);
       }

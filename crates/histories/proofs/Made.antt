@@ -7,13 +7,13 @@ use native.Mathlib.Omega.{arith}
 use lib.ListN.{getD, length, replicate}
 use lib.Seq.{ext-getD}
 use borrow.Author.Tests.{ne-eqb, le-ltb}
-use denote.Ref.{RefT, now, at-last}
+use denote.Ref.{now, at-last}
 use Rattle.refusal.specs.declared.Checked.the-variants.{Fine, Refused}
 use Rattle.refusal.specs.Refusal.{Rule, rule, accepted, verdict}
 use Rattle.refusal.proofs.Answer.{next, skip}
 use Rattle.geometry.specs.declared.Geometry.{Geometry}
 use Rattle.geometry.specs.declared.UserUnit.{UserUnit}
-use Rattle.geometry.specs.Geometry.{disksOf, bytesOf}
+use Rattle.geometry.specs.Geometry.{disksOf}
 use Rattle.layout.specs.declared.Place.{Place}
 use Rattle.layout.specs.Places.{fourOf}
 use Rattle.layout.specs.Marks.{lost}

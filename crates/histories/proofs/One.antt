@@ -1,12 +1,8 @@
 -- There is at most one ideal array. Assumes nothing.
 use Prim.Native.Nat.{ℕ, _+_, _≤_, _<_}
-use mathlib.Core.Path.{_≡_, sym, _∙_}
-use mathlib.Core.List.{List}
+use mathlib.Core.Path.{sym, _∙_}
 use native.Mathlib.Omega.{arith}
-use lib.ListN.{getD, length}
-use Rattle.geometry.specs.declared.Geometry.{Geometry}
 use Rattle.geometry.specs.Geometry.{userUnitsOf, bytesOf}
-use Rattle.design.specs.Design.{Laid}
 use Rattle.cells.specs.Roles.{userCell}
 use Rattle.cells.proofs.Roles.{user-cell-in}
 use Rattle.leaves.proofs.Runs.{bytes-run, same-bytes}

@@ -1,10 +1,9 @@
 -- An accepted rebuild leaves the ideal array and no mark; and in a history every rebuild is accepted. Assumes nothing.
 use Prim.Native.Nat.{ℕ, _*_, _≤_, _<_}
-use mathlib.Core.Path.{_≡_, refl, sym, ap, subst, _∙_}
-use mathlib.Core.List.{List, [], _∷_}
+use mathlib.Core.Path.{_≡_, refl, sym, subst, _∙_}
+use mathlib.Core.List.{List, _∷_}
 use native.Mathlib.Omega.{arith}
-use lib.ListN.{getD, length, replicate, length-replicate}
-use denote.Ref.{now}
+use lib.ListN.{length, replicate, length-replicate}
 use Rattle.counting.specs.Counting.{lowest}
 use Rattle.counting.proofs.Laws.{lowest-none}
 use Rattle.refusal.specs.Refusal.{accepted, verdict}
@@ -19,7 +18,6 @@ use Rattle.array.proofs.Fits.{words-fits, mark-low, array-fine}
 use Rattle.array.proofs.Reasons.{array-exact}
 use Rattle.rebuilding.specs.declared.Rebuilt.{Rebuilt}
 use Rattle.rebuilding.specs.declared.Rebuilt.the-variants.{Restored}
-use Rattle.rebuilding.specs.Theorems.{SamePresent}
 use Rattle.rebuilding.proofs.Accepted.{accepted-marks, accepted-comes-back, three-accepted}
 use Rattle.histories.specs.Histories.{State, Event, rebuilt, markedDisks, RebuildStep}
 use Rattle.histories.specs.Theorems.{Keeps}

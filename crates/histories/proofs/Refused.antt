@@ -15,7 +15,6 @@ use Rattle.array.specs.Array.{formattedArray, formattedMarks}
 use Rattle.array.specs.Rules.{arrayRules}
 use Rattle.array.proofs.Kept.{kept-old}
 use Rattle.writing.proofs.TwoResults.{write-refused}
-use Rattle.auditing.specs.declared.Audited.the-variants as Audit
 use Rattle.rebuilding.specs.declared.Rebuilt.the-variants as Rebuild
 use Rattle.rebuilding.proofs.TwoResults.{rebuild-refused}
 use Rattle.histories.specs.Histories.{State, Event, formatted, wasRead, written, audited, rebuilt, asked, lost, Step, refusedCall}

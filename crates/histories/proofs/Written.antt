@@ -1,16 +1,15 @@
 -- An accepted write moves the ideal array as it moves the array. Assumes nothing.
 use Prim.Native.Nat.{ℕ, _+_, _-_, _≤_, _<_}
 use mathlib.Core.Path.{_≡_, refl, sym, ap, subst, _∙_}
-use mathlib.Core.Bool.{Bool, true, false, cond, _&&_, _||_}
+use mathlib.Core.Bool.{Bool, true, false, cond, _||_}
 use mathlib.Core.Logic.{_⊎_, inl, inr, ⊎-elim}
 use mathlib.Core.List.{List, [], _∷_, _++_, map}
-use native.Mathlib.Nat.{add-assoc, add-zero}
+use native.Mathlib.Nat.{add-assoc}
 use native.Mathlib.Decide.{ℕ-discrete, decLt}
 use native.Mathlib.Omega.{arith}
-use lib.Dec.{eqb, leb, ltb}
+use lib.Dec.{eqb, leb}
 use lib.ListN.{getD, length}
 use borrow.Author.Tests.{eq-eqb, ne-eqb, le-leb, lt-leb, lt-ltb, le-ltb}
-use denote.Ref.{now}
 use Rattle.counting.proofs.Bools.{both-and, and-left-false, and-right-false}
 use Rattle.refusal.specs.declared.Checked.the-variants.{Fine}
 use Rattle.refusal.specs.Refusal.{Rule, rule, accepted, verdict}
@@ -18,17 +17,15 @@ use Rattle.refusal.proofs.Answer.{accepted-append, accepted-quiet}
 use Rattle.geometry.specs.declared.Geometry.{Geometry}
 use Rattle.geometry.specs.declared.UserUnit.{UserUnit}
 use Rattle.geometry.specs.Geometry.{disksOf, userUnitsOf, bytesOf}
-use Rattle.design.specs.Design.{Laid}
 use Rattle.cells.specs.declared.Cell.{Cell}
 use Rattle.cells.specs.Ranges.{CellIn}
 use Rattle.cells.specs.Roles.{userCell, userOuter, innerOf}
-use Rattle.layout.specs.declared.Place.{Place}
 use Rattle.layout.specs.Places.{placeOf, fourOf}
 use Rattle.layout.specs.Ranges.{PlaceIn}
 use Rattle.layout.specs.Marks.{lost}
 use Rattle.layout.proofs.Places.{place-in}
 use Rattle.layout.proofs.Theorems.{the-four-disks-differ}
-use Rattle.leaves.specs.Bytes.{run, addAll, Apart, xors}
+use Rattle.leaves.specs.Bytes.{addAll, Apart, xors}
 use Rattle.leaves.proofs.Runs.{bytes-run, same-bytes, at-run}
 use Rattle.array.specs.Array.{startOf, cellStart}
 use Rattle.array.specs.Rules.{arrayRules, rangeRules}
@@ -36,7 +33,7 @@ use Rattle.array.proofs.Fits.{ready}
 use Rattle.array.proofs.Range.{ranged}
 use Rattle.reading.specs.Reading.{readOf, markRule, readRules}
 use Rattle.fourfold.specs.Writing.{writeCells, differenceOf, writeOf}
-use Rattle.fourfold.specs.Theorems.{Range, at, Beside, SameDifference}
+use Rattle.fourfold.specs.Theorems.{Range, at, Beside}
 use Rattle.fourfold.proofs.Places.{disks-apart}
 use Rattle.fourfold.proofs.Starts.{user-in, outer-in, inner-in, range-in}
 use Rattle.fourfold.proofs.Sets.{a-write-keeps-a-consistent-array-consistent}

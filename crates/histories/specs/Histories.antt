@@ -31,7 +31,7 @@ pub record State : Type 0 where
   pub marks : List ℕ
 
 -- what happens, with what the caller lent and what was answered: `bytes` of a read are those of the buffer at return; `asked` is
--- any call that is lent neither array nor marks; `lost` is no call
+-- any other public call, none of which is lent the array, nor the marks to change; `lost` is no call
 pub data Event : Type 0 where
   formatted : Checked → Event
   wasRead : (n : UserUnit) → (offset : ℕ) → (bytes : List ℕ) → Checked → Event

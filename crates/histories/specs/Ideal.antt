@@ -8,7 +8,6 @@ use lib.Dec.{eqb, leb, ltb}
 use lib.ListN.{getD, length}
 use Rattle.refusal.specs.declared.Checked.the-variants.{Fine, Refused}
 use Rattle.geometry.specs.declared.Geometry.{Geometry}
-use Rattle.geometry.specs.declared.UserUnit.{UserUnit}
 use Rattle.geometry.specs.Geometry.{userUnitsOf, bytesOf}
 use Rattle.cells.specs.Roles.{userCell}
 use Rattle.array.specs.Array.{cellStart}

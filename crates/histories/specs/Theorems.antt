@@ -2,7 +2,7 @@
 use Prim.Native.Nat.{ℕ, _+_, _*_, _≤_, _<_}
 use mathlib.Core.Path.{_≡_}
 use mathlib.Core.Bool.{true}
-use mathlib.Core.List.{List, [], _∷_}
+use mathlib.Core.List.{List, _∷_}
 use lib.ListN.{getD, length, replicate}
 use Rattle.refusal.specs.declared.Checked.the-variants.{Fine}
 use Rattle.geometry.specs.declared.Geometry.{Geometry}
@@ -82,6 +82,10 @@ The-ideal-is-what-format-and-writes-make =
 pub record ByNumbers : Type 0 where
   pub history : History pairs rows events (record { array = left; marks = replicate 9 0 })
   pub ideal : Ideal pairs rows events left
+  -- the bytes of user units 0 and 13 as last written, and one that never was
+  pub unit-0 : (lastWritten events 0 0 ≡ 0) × (lastWritten events 0 1 ≡ 5)
+  pub unit-13 : (lastWritten events 13 0 ≡ 200) × (lastWritten events 13 1 ≡ 7)
+  pub unit-17 : lastWritten events 17 1 ≡ 0
 
 abbrev pub A-history-by-numbers : Type 0
 A-history-by-numbers = ByNumbers
