@@ -1,0 +1,14 @@
+pub mod Settled
+pub mod Geometry
+pub mod Leaves
+pub mod Runs
+pub mod Cells
+pub mod Layouts
+pub mod Array
+pub mod Fourfold
+pub mod Sets
+pub mod Finding
+pub mod Reaching
+pub mod Passing
+pub mod Sources
+pub mod Equation

@@ -1,0 +1,1 @@
+// What every promise settles: theorems only, over the promises of the public functions.
