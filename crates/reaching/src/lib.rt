@@ -25,7 +25,7 @@ pub struct Set {
 }
 
 // The number of unit q.
-pub fn member(set: Set, q: u32, n: usize) -> usize
+fn member(set: Set, q: u32, n: usize) -> usize
     requires { ⌜ SetIn n set × (q < set .size) ⌝ }
     ensures { λ r. ⌜ (r ≡ sideOf set .member q) × (r < n) ⌝ }
 {
@@ -34,7 +34,7 @@ pub fn member(set: Set, q: u32, n: usize) -> usize
 }
 
 // The outer set of a cell's label.
-pub fn outer_set(geometry: Geometry, at: Cell) -> Set
+fn outer_set(geometry: Geometry, at: Cell) -> Set
     requires { ⌜ Sound geometry ⌝ }
     requires { ⌜ CellIn geometry at ⌝ }
     ensures { λ r. ⌜ (sideOf r ≡ outerSide geometry at) × SetIn (tupleCellsOf geometry) r ⌝ }
@@ -52,7 +52,7 @@ pub fn outer_set(geometry: Geometry, at: Cell) -> Set
 }
 
 // The inner set of its diagonal.
-pub fn inner_set(geometry: Geometry, at: Cell) -> Set
+fn inner_set(geometry: Geometry, at: Cell) -> Set
     requires { ⌜ Sound geometry ⌝ }
     requires { ⌜ CellIn geometry at ⌝ }
     ensures { λ r. ⌜ (sideOf r ≡ innerSide geometry at) × SetIn (tupleCellsOf geometry) r ⌝ }
