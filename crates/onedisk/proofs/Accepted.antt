@@ -1,6 +1,6 @@
 -- Demand 3 over the contracts of `rebuild` and `plan`: with one disk lost both are accepted, and the lost disk as rebuild leaves
 -- it is as the plan that is left says. Assumes nothing.
-use Prim.Native.Nat.{ℕ, _*_, _≤_, _<_}
+use Prim.Native.Nat.{ℕ, _*_, _≤_}
 use mathlib.Core.Path.{_≡_, refl, sym, ap, subst, subst⁻¹, _∙_}
 use mathlib.Core.List.{List, _++_}
 use native.Mathlib.Nat.{one-mul}
@@ -39,8 +39,8 @@ use Rattle.planning.proofs.Answers.{goes}
 use Rattle.planning.proofs.TwoResults.{same-planned, plan-accepted}
 use Rattle.onedisk.specs.OneDisk.{OneLost}
 use Rattle.onedisk.specs.Sources.{byteOf, Triple, triplesIn, sourceSum, Shares}
-use Rattle.onedisk.specs.Changes.{OneByteDiffers, Follows}
-use Rattle.onedisk.specs.Calls.{Rebuilds, Plans, Ready, AsPlanned}
+use Rattle.onedisk.specs.Changes.{Follows}
+use Rattle.onedisk.specs.Calls.{Rebuilds, Plans, Ready}
 use Rattle.onedisk.specs.Theorems.{One-lost-disk-is-rebuilt, The-lost-disk-is-planned, Demand-3}
 use Rattle.onedisk.proofs.Planned.{each-rebuilt-byte-is-the-XOR-of-its-planned-sources}
 use Rattle.onedisk.proofs.Shares.{each-disk-gives-its-share}
@@ -117,34 +117,37 @@ demand-3 κs κt κp G design array marks list x h room r bytes left p q last pl
     let is : now bytes ≡ rebuiltOf G d (now marks) (now array) = rebuilt-is κs G design array marks x h r bytes left p in
     let plan : triplesIn (take (3 * triplesOf G) (now last)) ≡ triplesIn (planOf G d x) =
     ap triplesIn (plan-left κp G design array marks x h list room q last pl)
-    in
-    record {
-      sums = λ y j hy hj.
-          ap (λ (b : List ℕ). byteOf G b x y j) is
-          ∙ each-rebuilt-byte-is-the-XOR-of-its-planned-sources G d (now marks) (now array) x (here .laid) (h .one-lost)
-          (here .whole) y j hy hj
-          ∙ ap (sourceSum G (now array) j y) (sym plan);
-      shares = subst⁻¹ (Shares G x) plan (each-disk-gives-its-share G d (here .laid) x (h .one-lost .disk));
-      changes = λ z w j e changed marks' c same s bytes' left' p'.
-          let again : Ready G design changed marks' x =
-          record {
-            none-due =
-                subst⁻¹ (λ (m : List ℕ). NoneDue (arrayRows G d (length (now changed)) m)) same
-                (subst⁻¹ (λ (n : ℕ). NoneDue (arrayRows G d n (now marks))) (c .long) (h .none-due));
-            one-lost = subst⁻¹ (λ (m : List ℕ). OneLost G m x) same (h .one-lost);
-          }
-          in
-          let is' : now bytes' ≡ rebuiltOf G d (now marks) (now changed) =
-          rebuilt-is κt G design changed marks' x again s bytes' left' p'
-          ∙ ap (λ (m : List ℕ). rebuiltOf G d m (now changed)) same
-          in
-          subst⁻¹ (λ (ts : List Triple). Follows G x ts (now bytes) (now bytes') z w j e) plan
-          (subst⁻¹ (λ (b : List ℕ). Follows G x (triplesIn (planOf G d x)) b (now bytes') z w j e) is
-          (subst⁻¹
-          (λ (b : List ℕ). Follows G x (triplesIn (planOf G d x)) (rebuiltOf G d (now marks) (now array)) b z w j e) is'
-          (a-changed-byte-changes-what-the-plan-says G d (now marks) (now array) (now changed) x (here .laid)
-          (h .one-lost) (here .whole) z w j e c)));
-    }
+    in (
+      one-lost-disk-is-rebuilt κs G design array marks x h r bytes left p,
+      the-lost-disk-is-planned κp G design array marks x h list room q last pl,
+      record {
+        sums = λ y j hy hj.
+            ap (λ (b : List ℕ). byteOf G b x y j) is
+            ∙ each-rebuilt-byte-is-the-XOR-of-its-planned-sources G d (now marks) (now array) x (here .laid) (h .one-lost)
+            (here .whole) y j hy hj
+            ∙ ap (sourceSum G (now array) j y) (sym plan);
+        shares = subst⁻¹ (Shares G x) plan (each-disk-gives-its-share G d (here .laid) x (h .one-lost .disk));
+        changes = λ z w j e changed marks' c same s bytes' left' p'.
+            let again : Ready G design changed marks' x =
+            record {
+              none-due =
+                  subst⁻¹ (λ (m : List ℕ). NoneDue (arrayRows G d (length (now changed)) m)) same
+                  (subst⁻¹ (λ (n : ℕ). NoneDue (arrayRows G d n (now marks))) (c .long) (h .none-due));
+              one-lost = subst⁻¹ (λ (m : List ℕ). OneLost G m x) same (h .one-lost);
+            }
+            in
+            let is' : now bytes' ≡ rebuiltOf G d (now marks) (now changed) =
+            rebuilt-is κt G design changed marks' x again s bytes' left' p'
+            ∙ ap (λ (m : List ℕ). rebuiltOf G d m (now changed)) same
+            in
+            subst⁻¹ (λ (ts : List Triple). Follows G x ts (now bytes) (now bytes') z w j e) plan
+            (subst⁻¹ (λ (b : List ℕ). Follows G x (triplesIn (planOf G d x)) b (now bytes') z w j e) is
+            (subst⁻¹
+            (λ (b : List ℕ). Follows G x (triplesIn (planOf G d x)) (rebuiltOf G d (now marks) (now array)) b z w j e) is'
+            (a-changed-byte-changes-what-the-plan-says G d (now marks) (now array) (now changed) x (here .laid)
+            (h .one-lost) (here .whole) z w j e c)));
+      },
+    )
   where
     d : List ℕ
     d = now design

@@ -11,19 +11,7 @@ use lib.Dec.{eqb}
 use lib.ListN.{length}
 use borrow.Author.Tests.{ne-eqb}
 use Rattle.counting.proofs.Bools.{bool-either, bool-not-both, none-or}
-use Rattle.peeling.specs.Peeling.{
-  Side,
-  Step,
-  restored,
-  presentAfter,
-  orElse,
-  tried,
-  visit,
-  sweep,
-  peeled,
-  restSum,
-  byteAfter,
-}
+use Rattle.peeling.specs.Peeling.{Side, Step, restored, presentAfter, orElse, tried, visit, sweep, peeled, restSum, byteAfter}
 use Rattle.peeling.specs.Theorems.{Rest}
 use Rattle.peeling.proofs.Sides.{rest-lacks-only}
 use Rattle.peeling.proofs.Cases.{tried-here, visit-present, visit-missing}

@@ -1,83 +1,30 @@
 -- A changed byte changes the XORs that read it, and no others. Assumes nothing.
-use Prim.Native.Nat.{ℕ, suc, _+_, _*_, _≤_, _<_}
+use Prim.Native.Nat.{ℕ, _+_, _*_, _≤_, _<_}
 use mathlib.Core.Path.{_≡_, refl, sym, ap, ap₂, subst, _∙_}
-use mathlib.Core.Bool.{Bool, true, false, not, _&&_, cond}
-use mathlib.Core.Logic.{_⊎_, inl, inr, ⊎-elim}
+use mathlib.Core.Bool.{Bool, true, false, cond}
+use mathlib.Core.Logic.{_⊎_, inl, inr}
 use mathlib.Core.List.{List, [], _∷_}
-use native.Mathlib.Decide.{ℕ-discrete}
-use native.Mathlib.Omega.{arith}
 use lib.Bits.{bitXor, xor-zero-r}
-use lib.Dec.{ltb, eqb}
-use lib.ListN.{getD, length}
-use borrow.Author.Tests.{eq-eqb, ne-eqb, eqb-true, lt-ltb, ltb-true, not-true, not-false}
-use Rattle.counting.specs.Counting.{oneMoreIf}
-use Rattle.counting.proofs.Bools.{bool-either, bool-not-both, and-both, both-and, not-is-false}
+use lib.Dec.{eqb}
+use lib.ListN.{length}
+use borrow.Author.Tests.{eq-eqb, eqb-true}
+use Rattle.counting.proofs.Bools.{bool-either, bool-not-both, and-both, both-and}
 use Rattle.geometry.specs.declared.Geometry.{Geometry}
-use Rattle.geometry.specs.Geometry.{disksOf, unitsOf, bytesOf}
+use Rattle.geometry.specs.Geometry.{unitsOf, bytesOf}
 use Rattle.design.specs.Design.{Laid}
-use Rattle.cells.specs.declared.Cell.{Cell}
 use Rattle.cells.proofs.Numbering.{digits-only}
-use Rattle.layout.specs.Places.{place, placeOf}
-use Rattle.layout.proofs.Theorems.{cells-are-places}
+use Rattle.layout.specs.Places.{place}
 use Rattle.array.specs.Array.{startOf}
 use Rattle.leaves.proofs.Xor.{xor-swap, xor-assoc, xor-cancel}
 use Rattle.rebuilding.specs.Rebuild.{rebuiltOf}
 use Rattle.sources.specs.Plan.{planOf}
 use Rattle.onedisk.specs.OneDisk.{OneLost}
-use Rattle.onedisk.specs.Sources.{byteOf, Triple, triplesIn, sourceByte, sourceSum, countIn, onDisk, isUnit}
-use Rattle.onedisk.specs.Changes.{OneByteDiffers, DiskStays, DiskDiffers, IsTriple, Follows}
+use Rattle.onedisk.specs.Sources.{byteOf, Triple, triplesIn, sourceByte, sourceSum, IsTriple, countIn, onDisk, isUnit}
+use Rattle.onedisk.specs.Changes.{OneByteDiffers, DiskStays, DiskDiffers}
 use Rattle.onedisk.specs.Theorems.{A-changed-byte-changes-what-the-plan-says}
 use Rattle.onedisk.proofs.Planned.{each-rebuilt-byte-is-the-XOR-of-its-planned-sources}
-use Rattle.onedisk.proofs.Counts.{tripleAt, total-none}
-use Rattle.onedisk.proofs.Hits.{sourceOf, sizeOf, unitCell, hit, plan-count, Hit}
-use Rattle.onedisk.proofs.Shares.{source-valid, no-hit, each-disk-gives-its-share}
-
--- the triple is in the list
-abbrev Among : Triple → List Triple → Type 0
-Among s [] = ⊥
-Among s (t ∷ ts) = (t ≡ s) ⊎ Among s ts
-
-triple-among : (y z w : ℕ) (ts : List Triple) → IsTriple y z w ts → Among (record { restores = y; disk = z; unit = w }) ts
-triple-among y z w (t ∷ ts) (inl e) = inl e
-triple-among y z w (t ∷ ts) (inr m) = inr (triple-among y z w ts m)
-
-among-triple : (s : Triple) (ts : List Triple) → Among s ts → IsTriple (s .restores) (s .disk) (s .unit) ts
-among-triple s (t ∷ ts) (inl e) = inl e
-among-triple s (t ∷ ts) (inr m) = inr (among-triple s ts m)
-
--- ---- a test and its count
-module _ (f : Triple → Bool) where
-  one-more : (b : Bool) (n : ℕ) → n ≤ oneMoreIf b n
-  one-more true n = omega arith
-  one-more false n = omega arith
-
-  counted-in : (s : Triple) (ts : List Triple) → Among s ts → f s ≡ true → 1 ≤ countIn f ts
-  unfolding countIn
-  counted-in s (t ∷ ts) (inl e) h = let p : f t ≡ true = ap f e ∙ h in rw p (omega arith)
-  counted-in s (t ∷ ts) (inr m) h = omega (arith, counted-in s ts m h, one-more (f t) (countIn f ts))
-
-  none-counted : (s : Triple) (ts : List Triple) → Among s ts → countIn f ts ≡ 0 → f s ≡ false
-  none-counted s ts m e =
-      ⊎-elim (λ (h : f s ≡ true). absurd (let p = counted-in s ts m h in omega (arith, e, p))) (λ (h : f s ≡ false). h)
-      (bool-either (f s))
-
-  -- where the first passes and the count is at most one, no other passes
-  first-only : (s : Triple) (ts : List Triple) → countIn f (s ∷ ts) ≤ 1 → f s ≡ true → countIn f ts ≡ 0
-  unfolding countIn
-  first-only s ts l h = let p : suc (countIn f ts) ≤ 1 = rw h at l in omega arith
-
-  rest-low : (s : Triple) (ts : List Triple) → countIn f (s ∷ ts) ≤ 1 → countIn f ts ≤ 1
-  unfolding countIn
-  rest-low s ts l = omega (arith, one-more (f s) (countIn f ts))
-
-  -- two that pass are one
-  only-one : (ts : List Triple) → countIn f ts ≤ 1 → (s t : Triple) → Among s ts → Among t ts → f s ≡ true → f t ≡ true → s ≡ t
-  only-one (r ∷ ts) l s t (inl p) (inl q) hs ht = sym p ∙ q
-  only-one (r ∷ ts) l s t (inl p) (inr q) hs ht =
-      bool-not-both (f t) ht (none-counted t ts q (first-only r ts l (ap f p ∙ hs)))
-  only-one (r ∷ ts) l s t (inr p) (inl q) hs ht =
-      bool-not-both (f s) hs (none-counted s ts p (first-only r ts l (ap f q ∙ ht)))
-  only-one (r ∷ ts) l s t (inr p) (inr q) hs ht = only-one ts (rest-low r ts l) s t p q hs ht
+use Rattle.onedisk.proofs.Members.{Among, triple-among, among-triple, none-counted, first-only, rest-low, only-one, in-range}
+use Rattle.onedisk.proofs.Shares.{each-disk-gives-its-share}
 
 -- ---- the XOR over the sources
 module _ (G : Geometry) (a b : List ℕ) (i y : ℕ) where
@@ -109,33 +56,6 @@ module _ (G : Geometry) (a b : List ℕ) (i y : ℕ) where
       fails (inl q) = bool-not-both (f s) h (none-counted f s ts m (first-only f t ts l q))
       fails (inr q) = q
 
--- ---- the plan's triples are of units that there are
-abbrev inRange : Geometry → Triple → Bool
-inRange G s = ltb (s .restores) (unitsOf G) && ltb (s .unit) (unitsOf G)
-
-module _ (G : Geometry) (d : List ℕ) (L : Laid G d) (x : ℕ) (hx : x < disksOf G) where
-  out-none : countIn (λ (s : Triple). not (inRange G s)) (triplesIn (planOf G d x)) ≡ 0
-  out-none =
-      plan-count G d x (λ (s : Triple). not (inRange G s))
-      ∙ total-none (hit G d x (λ (s : Triple). not (inRange G s))) (λ (y : ℕ). sizeOf G (unitCell G d x y)) (unitsOf G)
-      (λ y e hy he. no-hit G d L x hx (λ (s : Triple). not (inRange G s)) y e hy he (λ h. never y e hy h))
-    where
-      never : (y e : ℕ) → y < unitsOf G → Hit G d x L hx (λ (s : Triple). not (inRange G s)) y e → ⊥
-      never y e hy h =
-          let s : Cell = sourceOf G (unitCell G d x y) e in
-          let w = cells-are-places G d L .there s (source-valid G d L x hx y e (h .source)) .unit in
-          bool-not-both (inRange G (tripleAt G d y s))
-          (both-and (ltb y (unitsOf G)) (ltb (placeOf G d s .unit .0) (unitsOf G)) (lt-ltb y (unitsOf G) hy)
-          (lt-ltb (placeOf G d s .unit .0) (unitsOf G) w))
-          (not-true (inRange G (tripleAt G d y s)) (h .passes))
-
-  in-range :
-      (s : Triple) → Among s (triplesIn (planOf G d x)) → (s .restores < unitsOf G) × (s .unit < unitsOf G)
-  in-range s m =
-      let h = none-counted (λ (s : Triple). not (inRange G s)) s (triplesIn (planOf G d x)) m out-none in
-      let both = and-both (ltb (s .restores) (unitsOf G)) (ltb (s .unit) (unitsOf G)) (not-false (inRange G s) h) in
-      (ltb-true (s .restores) (unitsOf G) (both .0), ltb-true (s .unit) (unitsOf G) (both .1))
-
 -- a byte of the array is at one offset of one unit of one disk
 byte-only :
     (G : Geometry) (x y i z w j : ℕ) → y < unitsOf G → w < unitsOf G → i < G .u → j < G .u →
@@ -162,7 +82,7 @@ module _ (G : Geometry) (d marks a b : List ℕ) (x : ℕ) (L : Laid G d) (o : O
   byte-stays s i m hi ne =
       c .elsewhere (startOf G (place (s .disk) (s .unit)) + i)
       (λ q.
-      let p = byte-only G (s .disk) (s .unit) i z w j (in-range G d L x (o .disk) s m .1) (c .unit) hi (c .offset) q in
+      let p = byte-only G (s .disk) (s .unit) i z w j (in-range G d L x (o .disk) s m .2) (c .unit) hi (c .offset) q in
       ne (both-and _ _ (eq-eqb (s .disk) z (p .0 .0)) (eq-eqb (s .unit) w (p .0 .1))) (p .1))
 
   -- where no triple that restores y has the changed byte, y's byte at the offset stays

@@ -5,7 +5,6 @@ use mathlib.Core.Path.{_≡_, refl, sym, ap, _∙_}
 use mathlib.Core.Bool.{Bool, true, false, not, cond}
 use mathlib.Core.Logic.{_⊎_, inl, inr}
 use mathlib.Core.List.{List, [], _∷_}
-use lib.Arith.{digits-div, digits-mod}
 use lib.ListN.{getD}
 use native.Mathlib.Decide.{ℕ-discrete}
 use native.Mathlib.Nat.{mod-lt, div-add-mod', mul-le-mul-right, suc-mul}
@@ -29,6 +28,7 @@ use Rattle.reaching.proofs.Numbers.{the-cells-of-a-tuple-are-numbered}
 use Rattle.onedisk.specs.OneDisk.{OneLost, firstSide, columnSteps, diskSteps}
 use Rattle.onedisk.specs.Theorems.{The-passes-of-one-lost-disk}
 use Rattle.onedisk.proofs.AtOnce.{missingSteps, steps-present, steps-missing}
+use Rattle.onedisk.proofs.Hits.{cell-of-disk}
 use Rattle.onedisk.proofs.Marked.{lost-disk, first, steps-at-once}
 
 module _ (G : Geometry) (t l c : ℕ) (g-pos : 0 < G .g) where
@@ -133,22 +133,14 @@ module _ (G : Geometry) (d marks : List ℕ) (x : ℕ) (L : Laid G d) (o : OneLo
   g-pos : 0 < G .g
   g-pos = omega (arith, L .sound .g-low)
 
-  -- a lost cell of the tuple stands in a region of x's group, in x's column
-  lost-cell :
-      (a : Cell) → CellIn G a → lost G marks (placeOf G d a) ≡ true →
-      (groupAt (G .k) d (a .tuple .0) (a .position) ≡ x / G .g) × (a .column ≡ x % G .g)
-  unfolding placeOf
-  lost-cell a v h =
-      let e : groupAt (G .k) d (a .tuple .0) (a .position) * G .g + a .column ≡ x = lost-disk G d marks x L o a v h in (
-        sym (digits-div (groupAt (G .k) d (a .tuple .0) (a .position)) (v .column)) ∙ ap (λ (n : ℕ). n / G .g) e,
-        sym (digits-mod (groupAt (G .k) d (a .tuple .0) (a .position)) (v .column)) ∙ ap (λ (n : ℕ). n % G .g) e,
-      )
-
+  -- a missing cell stands in a region of x's group, in x's column
   missing-cell :
       (n : ℕ) → n < tupleCellsOf G → hereOf G d marks t n ≡ false →
       (groupAt (G .k) d t (cellNumbered G t n .position) ≡ x / G .g) × (cellNumbered G t n .column ≡ x % G .g)
   unfolding hereOf cellNumbered
-  missing-cell n h e = lost-cell (cellNumbered G t n) (numbered .there n h) (not-false _ e)
+  missing-cell n h e =
+      let v = numbered .there n h in
+      cell-of-disk G d (cellNumbered G t n) v x (lost-disk G d marks x L o (cellNumbered G t n) v (not-false _ e))
 
   -- a tuple that names x's group
   module _ (named : names (G .k) d (x / G .g) t ≡ true) where

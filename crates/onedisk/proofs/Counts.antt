@@ -10,7 +10,7 @@ use native.Mathlib.Omega.{arith}
 use lib.Dec.{eqb}
 use borrow.Author.Tests.{eqb-true}
 use Rattle.counting.specs.Counting.{countBelow, anyBelow, oneMoreIf}
-use Rattle.counting.proofs.Bools.{bool-either, bool-not-both}
+use Rattle.counting.proofs.Bools.{bool-either}
 use Rattle.counting.proofs.Laws.{any-witness, any-none, count-zero, count-suc, count-le, count-none, count-one}
 use Rattle.counting.proofs.Sums.{sumBelow, oneIf, sum-but-one, count-next, count-among}
 use Rattle.geometry.specs.declared.Geometry.{Geometry}

@@ -1,14 +1,14 @@
 -- The sources that the plan gives for disk x, by the disk's unit and the member of its set. Assumes nothing.
-use Prim.Native.Nat.{ℕ, _+_, _-_, _*_, _/_, _%_, _≤_, _<_}
+use Prim.Native.Nat.{ℕ, _-_, _/_, _%_, _≤_, _<_}
 use mathlib.Core.Path.{_≡_, refl, sym, ap, ap₂, _∙_}
 use mathlib.Core.Bool.{Bool, true, false, not, _&&_, cond}
-use mathlib.Core.Logic.{_⊎_, inl, inr}
+use mathlib.Core.Logic.{_⊎_, inl, inr, ⊎-elim}
 use mathlib.Core.List.{List}
 use native.Mathlib.Omega.{arith}
 use lib.Arith.{digits-div, digits-mod}
 use lib.Dec.{ltb, eqb}
 use borrow.Author.Tests.{ne-eqb, eqb-false, ltb-true, ltb-false, lt-ltb, le-ltb, not-true}
-use Rattle.counting.proofs.Bools.{bool-not-both, and-both, both-and, not-is-true}
+use Rattle.counting.proofs.Bools.{bool-either, bool-not-both, and-both, both-and, not-is-true}
 use Rattle.counting.proofs.Sums.{sum-same}
 use Rattle.geometry.specs.declared.Geometry.{Geometry}
 use Rattle.geometry.specs.Geometry.{disksOf, unitsOf}
@@ -21,7 +21,7 @@ use Rattle.cells.proofs.Sets.{outer-member-in, inner-member-in, label-in, diago
 use Rattle.layout.specs.declared.Place.{Place}
 use Rattle.layout.specs.declared.Region.{Region}
 use Rattle.layout.specs.Regions.{partOf, positionOf}
-use Rattle.layout.specs.Places.{place, placeOf, cellAt}
+use Rattle.layout.specs.Places.{placeOf, cellAt}
 use Rattle.layout.proofs.Regions.{region-back}
 use Rattle.layout.proofs.Places.{disk-group, unit-part, cell-at-in, place-of-cell}
 use Rattle.sources.specs.Plan.{others, unitPlan, planBelow, planOf}
@@ -236,3 +236,15 @@ module _ (G : Geometry) (d : List ℕ) (x : ℕ) where
         in
         ap (λ (p : Place). p .unit .0)
         (sym (place-of-cell G d L x y hx hy) ∙ ap (placeOf G d) same ∙ place-of-cell G d L x z hx hz)
+
+    -- a test fails where a hit is absurd
+    pub no-hit : (f : Triple → Bool) (y e : ℕ) → y < unitsOf G → e < sizeOf G (unitCell y) → (Hit f y e → ⊥) → hit f y e ≡ false
+    no-hit f y e hy he none =
+        ⊎-elim (λ (w : hit f y e ≡ true). absurd (none (hit-is f y e hy he w)))
+        (λ (w : hit f y e ≡ false). w) (bool-either (hit f y e))
+
+    -- a source is a cell
+    pub source-valid :
+        (y e : ℕ) → OuterSource G (unitCell y) e (sourceOf G (unitCell y) e) ⊎ InnerSource G (unitCell y) e (sourceOf G (unitCell y) e) → CellIn G (sourceOf G (unitCell y) e)
+    source-valid y e (inl o) = o .valid
+    source-valid y e (inr o) = o .valid

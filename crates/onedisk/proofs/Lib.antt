@@ -5,6 +5,10 @@ pub mod Triples
 pub mod Planned
 pub mod Counts
 pub mod Hits
+pub mod Members
+pub mod Distinct
+pub mod OwnGroup
+pub mod OtherGroups
 pub mod Shares
 pub mod Changes
 pub mod Accepted

@@ -20,11 +20,7 @@ use Rattle.cells.specs.Ranges.{CellIn}
 use Rattle.cells.proofs.Sets.{outer-member-in, inner-member-in, label-in, has-label, diagonal-in, on-diagonal}
 use Rattle.layout.specs.Places.{placeOf}
 use Rattle.layout.specs.Marks.{lost}
-use Rattle.layout.proofs.Theorems.{
-  cells-are-places,
-  no-outer-set-holds-two-units-of-a-disk,
-  no-inner-set-holds-two-units-of-a-disk,
-}
+use Rattle.layout.proofs.Theorems.{cells-are-places, no-outer-set-holds-two-units-of-a-disk, no-inner-set-holds-two-units-of-a-disk}
 use Rattle.peeling.specs.Peeling.{Side}
 use Rattle.peeling.specs.Theorems.{Rest}
 use Rattle.reaching.specs.Reach.{tupleCellsOf, numberOf, cellNumbered, outerSide, innerSide, sidesOf, hereOf, stepsOf}

@@ -23,8 +23,8 @@ use Rattle.layout.specs.Places.{place, placeOf, cellAt}
 use Rattle.layout.specs.Marks.{lost}
 use Rattle.layout.proofs.Places.{cell-at-in, place-of-cell}
 use Rattle.array.specs.Array.{startOf, cellStart}
-use Rattle.peeling.specs.Peeling.{Side, restSum, byteAfter}
-use Rattle.reaching.specs.Reach.{tupleCellsOf, numberOf, cellNumbered, outerSide, innerSide, hereOf, stepsOf}
+use Rattle.peeling.specs.Peeling.{restSum, byteAfter}
+use Rattle.reaching.specs.Reach.{tupleCellsOf, numberOf, cellNumbered, outerSide, innerSide, hereOf}
 use Rattle.reaching.specs.Theorems.{CellsNumbered}
 use Rattle.reaching.proofs.Numbers.{the-cells-of-a-tuple-are-numbered}
 use Rattle.replaying.proofs.Bytes.{byteAt}
@@ -35,16 +35,7 @@ use Rattle.onedisk.specs.OneDisk.{OneLost, firstSide}
 use Rattle.onedisk.specs.Theorems.{Each-rebuilt-byte-is-the-XOR-of-its-planned-sources}
 use Rattle.onedisk.proofs.AtOnce.{byte-first}
 use Rattle.onedisk.proofs.Marked.{first, first-rest, steps-at-once}
-use Rattle.onedisk.proofs.Triples.{
-  Threes,
-  threes-lists,
-  listSum,
-  list-none,
-  list-append,
-  threes-unit,
-  others-elsewhere,
-  others-here,
-}
+use Rattle.onedisk.proofs.Triples.{Threes, threes-lists, listSum, list-none, list-append, threes-unit, others-elsewhere, others-here}
 
 -- ---- the plan: only the triples of unit y count for it
 module _ (G : Geometry) (d a : List ℕ) (j y : ℕ) where

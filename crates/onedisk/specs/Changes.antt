@@ -2,15 +2,14 @@
 -- none." Assumes nothing.
 use Prim.Native.Nat.{ℕ, _+_, _<_}
 use mathlib.Core.Path.{_≡_}
-use mathlib.Core.Logic.{_⊎_}
-use mathlib.Core.List.{List, [], _∷_}
+use mathlib.Core.List.{List}
 use lib.Bits.{bitXor}
 use lib.ListN.{getD, length}
 use Rattle.geometry.specs.declared.Geometry.{Geometry}
 use Rattle.geometry.specs.Geometry.{disksOf, unitsOf}
 use Rattle.layout.specs.Places.{place}
 use Rattle.array.specs.Array.{startOf}
-use Rattle.onedisk.specs.Sources.{byteOf, Triple}
+use Rattle.onedisk.specs.Sources.{byteOf, Triple, IsTriple}
 
 -- array b is array a but for one byte, at offset j of unit w of disk z, which differs by e
 pub record OneByteDiffers (G : Geometry) (a b : List ℕ) (z w j e : ℕ) : Type 0 where
@@ -32,11 +31,6 @@ pub record DiskDiffers (G : Geometry) (x : ℕ) (a b : List ℕ) (y j e : ℕ) :
   pub changed : byteOf G b x y j ≡ byteOf G a x y j → ⊥
   pub elsewhere :
       (z i : ℕ) → z < unitsOf G → i < G .u → (z ≡ y → i ≡ j → ⊥) → byteOf G b x z i ≡ byteOf G a x z i
-
--- (y, z, w) is a triple of the list
-abbrev pub IsTriple : (y z w : ℕ) → List Triple → Type 0
-IsTriple y z w [] = ⊥
-IsTriple y z w (s ∷ ss) = (s ≡ record { restores = y; disk = z; unit = w }) ⊎ IsTriple y z w ss
 
 -- what a byte that differs by e, at offset j of unit w of disk z, does to disk x as rebuilt: in a unit of the plan; in a unit
 -- that is in no triple; on disk x itself

@@ -3,13 +3,14 @@
 use Prim.Native.Nat.{ℕ, _+_, _*_, _/_, _≤_, _<_}
 use mathlib.Core.Path.{_≡_}
 use mathlib.Core.Bool.{Bool, _&&_, cond}
+use mathlib.Core.Logic.{_⊎_}
 use mathlib.Core.List.{List, [], _∷_}
 use lib.Bits.{bitXor}
 use lib.Dec.{eqb}
 use lib.ListN.{getD}
 use Rattle.counting.specs.Counting.{oneMoreIf}
 use Rattle.geometry.specs.declared.Geometry.{Geometry}
-use Rattle.geometry.specs.Geometry.{partsOf, disksOf}
+use Rattle.geometry.specs.Geometry.{partsOf, disksOf, unitsOf}
 use Rattle.layout.specs.Places.{place}
 use Rattle.array.specs.Array.{startOf}
 
@@ -39,6 +40,11 @@ unfoldable pub sourceSum : Geometry → (a : List ℕ) → (j y : ℕ) → List 
 sourceSum G a j y [] = 0
 sourceSum G a j y (s ∷ ss) = bitXor (cond (eqb (s .restores) y) (sourceByte G a j s) 0) (sourceSum G a j y ss)
 
+-- (y, z, w) is a triple of the list
+abbrev pub IsTriple : (y z w : ℕ) → List Triple → Type 0
+IsTriple y z w [] = ⊥
+IsTriple y z w (s ∷ ss) = (s ≡ record { restores = y; disk = z; unit = w }) ⊎ IsTriple y z w ss
+
 -- how many of the triples pass a test
 unfoldable pub countIn : (Triple → Bool) → List Triple → ℕ
 countIn f [] = 0
@@ -61,9 +67,10 @@ pub record AllButOne (G : Geometry) (a : ℕ) (plan : List Triple) : Type 0 wher
   pub none : countIn (onDisk (a * G .g + column)) plan ≡ 0
   pub one : (c : ℕ) → c < G .g → (c ≡ column → ⊥) → countIn (onDisk (a * G .g + c)) plan ≡ 1
 
--- what each disk gives to restore disk x: no unit twice, disk x none; "In every other group all disks but one give one unit and
+-- what each disk gives to restore disk x: units that there are, none twice, disk x none; "In every other group all disks but one give one unit and
 -- that one gives none. Each surviving disk of its own group gives one unit per part" [for 1 ≤ g]
 pub record Shares (G : Geometry) (x : ℕ) (plan : List Triple) : Type 0 where
+  pub inside : (y z w : ℕ) → IsTriple y z w plan → (y < unitsOf G) × (z < disksOf G) × (w < unitsOf G)
   pub once : (z w : ℕ) → countIn (isUnit z w) plan ≤ 1
   pub itself : countIn (onDisk x) plan ≡ 0
   pub others : (a : ℕ) → a < G .v → (a ≡ x / G .g → ⊥) → AllButOne G a plan

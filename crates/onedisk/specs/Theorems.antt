@@ -69,11 +69,12 @@ The-lost-disk-is-planned =
     (list : RefT (List ℕ)) → 3 * triplesOf G ≤ length (now list) → (r : Planned) (last : RefT (List ℕ)) →
     Plans κs G design x list r last → r ≡ Triples (triplesOf G)
 
--- demand 3: what rebuild leaves of the lost disk is what the plan, as the plan call leaves it, says
+-- demand 3: both calls are accepted, and what rebuild leaves of the lost disk is what the plan, as the plan call leaves it, says
 abbrev pub Demand-3 : Type 0
 Demand-3 =
     (κs κt : Lfts 3) (κp : Lfts 2) (G : Geometry) (design array marks list : RefT (List ℕ)) (x : ℕ) →
     Ready G design array marks x → 3 * triplesOf G ≤ length (now list) →
     (r : Rebuilt) (bytes left : RefT (List ℕ)) → Rebuilds κs G design array marks r bytes left →
     (q : Planned) (last : RefT (List ℕ)) → Plans κp G design x list q last →
-    AsPlanned κt G design array marks x bytes (triplesIn (take (3 * triplesOf G) (now last)))
+    (r ≡ Restored (unitsOf G)) × (q ≡ Triples (triplesOf G))
+    × AsPlanned κt G design array marks x bytes (triplesIn (take (3 * triplesOf G) (now last)))
