@@ -78,7 +78,8 @@ module _ (G : Geometry) (d marks a b : List ℕ) (x : ℕ) (L : Laid G d) (o : O
 
   -- a source that is another unit, or a byte at another offset, stays
   byte-stays :
-      (s : Triple) (i : ℕ) → Among s plan → i < G .u → (isUnit z w s ≡ true → i ≡ j → ⊥) → sourceByte G b i s ≡ sourceByte G a i s
+      (s : Triple) (i : ℕ) → Among s plan → i < G .u → (isUnit z w s ≡ true → i ≡ j → ⊥) →
+      sourceByte G b i s ≡ sourceByte G a i s
   byte-stays s i m hi ne =
       c .elsewhere (startOf G (place (s .disk) (s .unit)) + i)
       (λ q.

@@ -51,7 +51,8 @@ module _ (C : ℕ → ℕ → Bool) (size : ℕ → ℕ) (n : ℕ) where
 
   -- any two that pass are one
   pub total-low :
-      ((y e z i : ℕ) → y < n → e < size y → z < n → i < size z → C y e ≡ true → C z i ≡ true → (z ≡ y) × (i ≡ e)) → total ≤ 1
+      ((y e z i : ℕ) → y < n → e < size y → z < n → i < size z → C y e ≡ true → C z i ≡ true → (z ≡ y) × (i ≡ e)) →
+      total ≤ 1
   total-low same = go (anyBelow (λ (y : ℕ). anyBelow (C y) (size y)) n) refl
     where
       go : (b : Bool) → anyBelow (λ (y : ℕ). anyBelow (C y) (size y)) n ≡ b → total ≤ 1

@@ -22,7 +22,23 @@ use Rattle.layout.specs.Places.{place, placeOf, cellAt}
 use Rattle.layout.proofs.Theorems.{cells-are-places}
 use Rattle.onedisk.specs.Sources.{onDisk, isUnit}
 use Rattle.onedisk.proofs.Counts.{tripleAt, total-none, total-low}
-use Rattle.onedisk.proofs.Hits.{cell-of-disk, sourceOf, sizeOf, OuterSource, InnerSource, unitCell, hit, hits, unit-in, hit-is, no-hit, source-valid, unit-group, same-position, same-unit}
+use Rattle.onedisk.proofs.Hits.{
+  cell-of-disk,
+  sourceOf,
+  sizeOf,
+  OuterSource,
+  InnerSource,
+  unitCell,
+  hit,
+  hits,
+  unit-in,
+  hit-is,
+  no-hit,
+  source-valid,
+  unit-group,
+  same-position,
+  same-unit,
+}
 
 module _ (G : Geometry) (d : List ℕ) (L : Laid G d) (x : ℕ) (hx : x < disksOf G) where
   pub g-pos : 0 < G .g

@@ -245,6 +245,8 @@ module _ (G : Geometry) (d : List ℕ) (x : ℕ) where
 
     -- a source is a cell
     pub source-valid :
-        (y e : ℕ) → OuterSource G (unitCell y) e (sourceOf G (unitCell y) e) ⊎ InnerSource G (unitCell y) e (sourceOf G (unitCell y) e) → CellIn G (sourceOf G (unitCell y) e)
+        (y e : ℕ) →
+        OuterSource G (unitCell y) e (sourceOf G (unitCell y) e) ⊎ InnerSource G (unitCell y) e (sourceOf G (unitCell y) e) →
+        CellIn G (sourceOf G (unitCell y) e)
     source-valid y e (inl o) = o .valid
     source-valid y e (inr o) = o .valid

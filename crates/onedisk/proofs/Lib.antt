@@ -13,3 +13,4 @@ pub mod Shares
 pub mod Changes
 pub mod Accepted
 pub mod Theorems
+pub mod Example

@@ -59,7 +59,8 @@ module _ (f : Triple → Bool) where
   rest-low s ts l = omega (arith, one-more (f s) (countIn f ts))
 
   -- two that pass are one
-  pub only-one : (ts : List Triple) → countIn f ts ≤ 1 → (s t : Triple) → Among s ts → Among t ts → f s ≡ true → f t ≡ true → s ≡ t
+  pub only-one :
+      (ts : List Triple) → countIn f ts ≤ 1 → (s t : Triple) → Among s ts → Among t ts → f s ≡ true → f t ≡ true → s ≡ t
   only-one (r ∷ ts) l s t (inl p) (inl q) hs ht = sym p ∙ q
   only-one (r ∷ ts) l s t (inl p) (inr q) hs ht =
       bool-not-both (f t) ht (none-counted t ts q (first-only r ts l (ap f p ∙ hs)))

@@ -25,7 +25,22 @@ use Rattle.sources.specs.Plan.{planOf}
 use Rattle.onedisk.specs.Sources.{triplesIn, onDisk, AllButOne}
 use Rattle.onedisk.proofs.Counts.{tripleAt, total-none, total-one, each-met}
 use Rattle.onedisk.proofs.Distinct.{outer-disk, inner-disk}
-use Rattle.onedisk.proofs.Hits.{sourceOf, sizeOf, OuterSource, InnerSource, unitCell, hit, hits, plan-count, unit-in, hit-is, no-hit, outer-hit, unit-group, same-unit}
+use Rattle.onedisk.proofs.Hits.{
+  sourceOf,
+  sizeOf,
+  OuterSource,
+  InnerSource,
+  unitCell,
+  hit,
+  hits,
+  plan-count,
+  unit-in,
+  hit-is,
+  no-hit,
+  outer-hit,
+  unit-group,
+  same-unit,
+}
 
 module _ (G : Geometry) (d : List ℕ) (L : Laid G d) (x : ℕ) (hx : x < disksOf G) where
   g-pos : 0 < G .g

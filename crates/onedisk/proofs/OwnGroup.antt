@@ -24,7 +24,20 @@ use Rattle.layout.specs.Places.{placeOf, cellAt}
 use Rattle.onedisk.specs.Sources.{inPart}
 use Rattle.onedisk.proofs.Counts.{tripleAt, total-one, each-met}
 use Rattle.onedisk.proofs.Distinct.{outer-group, outer-disk, inner-disk}
-use Rattle.onedisk.proofs.Hits.{sourceOf, sizeOf, OuterSource, InnerSource, unitCell, hit, hits, unit-in, hit-is, inner-hit, unit-group, unit-part-is}
+use Rattle.onedisk.proofs.Hits.{
+  sourceOf,
+  sizeOf,
+  OuterSource,
+  InnerSource,
+  unitCell,
+  hit,
+  hits,
+  unit-in,
+  hit-is,
+  inner-hit,
+  unit-group,
+  unit-part-is,
+}
 
 module _ (G : Geometry) (d : List ℕ) (L : Laid G d) (x : ℕ) (hx : x < disksOf G) where
   g-pos : 0 < G .g

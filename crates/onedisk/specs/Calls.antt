@@ -24,7 +24,9 @@ Rebuilds κs G design array marks r bytes left =
     rebuild.Post κs (G, (design, (array, (marks, tt)))) r (G, (design, (bytes, (left, tt))))
 
 -- the plan call for disk x may answer r, and the list may then be held as `last`
-abbrev pub Plans : (κs : Lfts 2) → Geometry → (design : RefT (List ℕ)) → (x : ℕ) → (list : RefT (List ℕ)) → Planned → (last : RefT (List ℕ)) → Type 0
+abbrev pub Plans :
+    (κs : Lfts 2) → Geometry → (design : RefT (List ℕ)) → (x : ℕ) → (list : RefT (List ℕ)) → Planned →
+    (last : RefT (List ℕ)) → Type 0
 Plans κs G design x list r last =
     plan.Post κs (G, (design, (record { 0 = x }, (list, tt)))) r (G, (design, (record { 0 = x }, (last, tt))))
 

@@ -3,3 +3,4 @@ pub mod Sources
 pub mod Changes
 pub mod Calls
 pub mod Theorems
+pub mod Example

@@ -67,8 +67,8 @@ pub record AllButOne (G : Geometry) (a : ℕ) (plan : List Triple) : Type 0 wher
   pub none : countIn (onDisk (a * G .g + column)) plan ≡ 0
   pub one : (c : ℕ) → c < G .g → (c ≡ column → ⊥) → countIn (onDisk (a * G .g + c)) plan ≡ 1
 
--- what each disk gives to restore disk x: units that there are, none twice, disk x none; "In every other group all disks but one give one unit and
--- that one gives none. Each surviving disk of its own group gives one unit per part" [for 1 ≤ g]
+-- what each disk gives to restore disk x: units that there are, none twice, disk x none; "In every other group all disks but
+-- one give one unit and that one gives none. Each surviving disk of its own group gives one unit per part" [for 1 ≤ g]
 pub record Shares (G : Geometry) (x : ℕ) (plan : List Triple) : Type 0 where
   pub inside : (y z w : ℕ) → IsTriple y z w plan → (y < unitsOf G) × (z < disksOf G) × (w < unitsOf G)
   pub once : (z w : ℕ) → countIn (isUnit z w) plan ≤ 1
