@@ -1,6 +1,6 @@
 -- The last format and the accepted writes after it, with nothing lost, are accepted and make the ideal array. Assumes nothing.
 use Prim.Native.Nat.{ℕ, _+_, _-_, _<_}
-use mathlib.Core.Path.{_≡_, refl, sym, ap, _∙_}
+use mathlib.Core.Path.{_≡_, refl, sym, ap, subst, _∙_}
 use mathlib.Core.Bool.{false, cond}
 use mathlib.Core.List.{List, [], _∷_, _++_}
 use native.Mathlib.Omega.{arith}
@@ -28,14 +28,16 @@ use Rattle.histories.specs.Histories.{State, Event, formatted, wasRead, 
 use Rattle.histories.specs.Histories as Histories
 use Rattle.histories.specs.Histories.{FormatStep, WriteStep, Step, History, start, more}
 use Rattle.histories.specs.Ideal.{lastWritten, holds}
-use Rattle.histories.specs.Made.{formatAndWrites}
+use Rattle.histories.specs.Made.{formatAndWrites, Made}
 use Rattle.histories.specs.Theorems.{Keeps, The-ideal-is-what-format-and-writes-make}
+use Rattle.histories.specs.Theorems.{A-rebuild-leaves-what-format-and-writes-make}
 use Rattle.histories.proofs.One.{the-ideal-is-one}
 use Rattle.histories.proofs.Refused.{state}
 use Rattle.histories.proofs.Start.{format-leaves}
 use Rattle.histories.proofs.Written.{write-through, write-fine}
 use Rattle.histories.proofs.Losses.{ideal-on}
 use Rattle.histories.proofs.Rebuilds.{still-fine}
+use Rattle.histories.proofs.Demand.{demand-2}
 use Rattle.histories.proofs.Kept.{sizes-passed, every-history-keeps-its-ideal}
 
 -- the events that are left out write nothing that lasts
@@ -164,3 +166,9 @@ the-ideal-is-what-format-and-writes-make G d es t h a I =
           (ideal-on G d fs es (λ m j. sym (last-same es m j)) (k .ideal) (k .is-ideal)) I;
       marks = w .marks;
     }
+
+pub a-rebuild-leaves-what-format-and-writes-make : A-rebuild-leaves-what-format-and-writes-make
+a-rebuild-leaves-what-format-and-writes-make G d es t h r w b =
+    let k = demand-2 G d es t h in
+    let e = k .rebuilds r w b in
+    (e .0, subst (Made G d es) (sym (e .1)) (the-ideal-is-what-format-and-writes-make G d es t h (k .ideal) (k .is-ideal)))

@@ -78,6 +78,13 @@ abbrev pub The-ideal-is-what-format-and-writes-make : Type 0
 The-ideal-is-what-format-and-writes-make =
     (G : Geometry) (d : List ℕ) (es : List Event) (t : State) → History G d es t → (a : List ℕ) → Ideal G d es a → Made G d es a
 
+-- so, with no word of an ideal: whatever came before it, a rebuild is accepted and leaves what they make
+abbrev pub A-rebuild-leaves-what-format-and-writes-make : Type 0
+A-rebuild-leaves-what-format-and-writes-make =
+    (G : Geometry) (d : List ℕ) (es : List Event) (t : State) → History G d es t →
+    (r : Rebuilt) (w : State) → Step G d t (rebuilt r) w →
+    (r ≡ Rebuild.Restored (markedDisks G (t .marks) * unitsOf G)) × Made G d es (w .array)
+
 -- none of this is empty: thirteen events, with the numbers of their answers, and the 108 bytes that they leave
 pub record ByNumbers : Type 0 where
   pub history : History pairs rows events (record { array = left; marks = replicate 9 0 })
