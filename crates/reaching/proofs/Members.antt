@@ -1,7 +1,7 @@
 -- The units of a set by its seven numbers: outer and inner sets alike, each unit a cell of the tuple. Assumes nothing.
 use Prim.Native.Nat.{ℕ, _+_, _-_, _*_, _%_, _<_, _≤_}
 use mathlib.Core.Path.{_≡_, _∙_, ap, sym, refl, fun-ext}
-use native.Mathlib.Nat.{mod-lt, mul-le-mul, mul-comm, mul-assoc, add-mul, add-comm, mul-one}
+use native.Mathlib.Nat.{mod-lt, mod-add-mod, mul-le-mul, mul-comm, mul-assoc, add-mul, add-comm, mul-one}
 use native.Mathlib.Omega.{arith}
 use mir.Syntax.{w32}
 use mir.Val.{Fits}
@@ -28,20 +28,41 @@ regions-fit l g p q =
     let b : l * (g * g) ≤ 13 * (13 * 13) = product-le l (g * g) 13 (13 * 13) p a in
     omega arith
 
--- ---- one unit
-module _ (n : ℕ) (x : Set) (h : SetIn n x) (q : ℕ) (l : q < x .size) where
-  pub turned : q * x .turn ≤ 169
-  turned = product-le q (x .turn) 13 13 (omega arith) (h .turn)
+-- ---- from one unit to the next
+-- where unit q's row of columns begins, and its column there
+pub record At (x : Set) (p c q : ℕ) : Type 0 where
+  pub line : p ≡ x .base + q * x .step
+  pub column : c ≡ (x .column + q * x .turn) % x .g
 
-  pub stepped : q * x .step ≤ 2197
-  stepped = product-le q (x .step) 13 169 (omega arith) (h .step)
+pub at-first : (x : Set) (c : ℕ) → c ≡ (0 + x .column) % x .g → At x (x .base) c 0
+at-first x c e = record { line = omega arith; column = e ∙ ap (λ (n : ℕ). n % x .g) (omega arith) }
 
-  pub column-low : (x .column + q * x .turn) % x .g < 13
-  column-low = let m : (x .column + q * x .turn) % x .g < x .g = mod-lt (x .column + q * x .turn) (h .g-low) in omega arith
+module _ (x : Set) (p c q : ℕ) (a : At x p c q) where
+  pub at-next : (r : ℕ) → r ≡ (c + x .turn) % x .g → At x (p + x .step) r (q + 1)
+  at-next r e =
+      let w : x .column + q * x .turn + x .turn ≡ x .column + (q + 1) * x .turn = omega arith in
+      record {
+        line = omega (arith, a .line);
+        column =
+            e ∙ ap (λ (n : ℕ). (n + x .turn) % x .g) (a .column) ∙ mod-add-mod (x .column + q * x .turn) (x .g) (x .turn)
+            ∙ ap (λ (n : ℕ). n % x .g) w;
+      }
 
-  pub unit-low : x .base + q * x .step + (x .column + q * x .turn) % x .g < n
+  pub at-is : p + c ≡ sideOf x .member q
   unfolding sideOf
-  unit-low = h .low q l
+  at-is = rw (a .line, a .column)
+
+  module _ (n : ℕ) (h : SetIn n x) (l : q < x .size) where
+    pub line-low : p ≤ 3887
+    line-low =
+        let m : q * x .step ≤ 13 * 169 = product-le q (x .step) 13 169 (omega arith) (h .step) in
+        omega (arith, a .line)
+
+    pub column-low : c < x .g
+    column-low = rw (a .column) (mod-lt (x .column + q * x .turn) (h .g-low))
+
+    pub unit-low : p + c < n
+    unit-low = rw at-is (h .low q l)
 
 -- ---- the two kinds
 abbrev pub outerSet : Geometry → Cell → (c : ℕ) → Set

@@ -27,13 +27,13 @@ sideOf x =
       own = x .own;
     }
 
--- small enough that its units' numbers fit, and each of them is below n
+-- small enough that its units' numbers fit, the column and its turn at most once round, and each unit below n
 pub record SetIn (n : ℕ) (x : Set) : Type 0 where
   pub size : x .size ≤ 13
   pub base : x .base ≤ 1690
   pub step : x .step ≤ 169
-  pub column : x .column ≤ 13
-  pub turn : x .turn ≤ 13
+  pub column : x .column ≤ x .g
+  pub turn : x .turn ≤ x .g
   pub g-low : 1 ≤ x .g
   pub g-high : x .g ≤ 13
   pub low : (q : ℕ) → q < x .size → sideOf x .member q < n

@@ -4,7 +4,7 @@ use cells::Cell;
 use geometry::Geometry;
 use geometry::Tuple;
 ghost use mathlib.Core.Path.{_≡_};
-ghost use Prim.Native.Nat.{_≤_, _<_};
+ghost use Prim.Native.Nat.{_+_, _%_, _≤_, _<_};
 ghost use lib.ListN.{length};
 ghost use Rattle.geometry.specs.Geometry.{Sound, tuplesOf};
 ghost use Rattle.cells.specs.Ranges.{CellIn};
@@ -24,13 +24,16 @@ pub struct Set {
     pub g: u32,
 }
 
-// The number of unit q.
-fn member(set: Set, q: u32, n: usize) -> usize
-    requires { ⌜ SetIn n set × (q < set .size) ⌝ }
-    ensures { λ r. ⌜ (r ≡ sideOf set .member q) × (r < n) ⌝ }
+// A column moved right by at most g, with no division.
+fn turned(g: u32, x: u32, by: u32) -> u32
+    requires { ⌜ (x < g) × (by ≤ g) × (g ≤ 13) ⌝ }
+    ensures { λ r. ⌜ r ≡ (x + by) % g ⌝ }
 {
-    let column = (set.column + q * set.turn) % set.g;
-    (set.base + q * set.step + column) as usize
+    let moved = x + by;
+    if moved < g {
+        return moved;
+    }
+    moved - g
 }
 
 // The outer set of a cell's label.
@@ -84,17 +87,21 @@ pub fn cell_numbered(geometry: Geometry, tuple: Tuple, n: u32) -> Cell
     }
 }
 
-// Whether every unit of the set but the cell's own is present.
+// Whether every unit of the set but the cell's own is present. Each unit is a step and a turn from the one before.
 fn lacks_only(flags: &[bool], set: Set) -> bool
     requires { ⌜ SetIn (length (now flags)) set ⌝ }
     ensures { λ r. ⌜ r ≡ lacksOnly (seen (now (flags .entry))) (sideOf set) ⌝ }
 {
+    let mut line = set.base;
+    let mut x = turned(set.g, 0, set.column);
     let mut q: u32 = 0;
     while q < set.size {
-        let at = member(set, q, flags.len());
+        let at = (line + x) as usize;
         if !((q == set.own) | flags[at]) {
             return false;
         }
+        line += set.step;
+        x = turned(set.g, x, set.turn);
         q += 1;
     }
     true

@@ -1,29 +1,67 @@
 -- `reaching::lacks_only` meets its contract: no unit so far is another's and missing. Assumes nothing.
+use Rattle.reaching.proofs.Members.{At, at-first, at-next, at-is, line-low, column-low, unit-low}
 use Rattle.reaching.proofs.Scans.{lacking, units-more, units-lack, units-all}
 use Rattle.checking.proofs.Scan.{scanned-none, Scanned}
 use Prim.Native.Nat.{_-_}
+use native.Mathlib.Omega.{arith}
 use borrow.Author.Needs.{needs}
 use Rattle.reaching.proofs.lacks_only.Statement.{statement}
 use Rattle.reaching.proofs.lacks_only.Tie as tie
 
 abbrev Inv-loop : tie.InvT-loop
-Inv-loop flags set q₀ q = Scanned (lacking flags set) (set .size) q
+Inv-loop flags set line₀ x₀ q₀ line x q = Scanned (lacking flags set) (set .size) q × At set line x q
 
 abbrev μ-loop : tie.MeasureT-loop
-μ-loop flags set q₀ q = set .size - q
+μ-loop flags set line₀ x₀ q₀ line x q = set .size - q
+
+turned-requires : tie.Need-turned-requires Inv-loop μ-loop
+turned-requires c κs =
+    let p = c .before .pre in
+    (omega (arith, p .g-low), p .column, p .g-high)
 
 loop-holds : tie.Need-loop-holds Inv-loop μ-loop
-loop-holds c = scanned-none _ _
+loop-holds c = (scanned-none _ _, at-first _ _ (c .turned .ensures))
 
-member-requires : tie.Need-member-requires Inv-loop μ-loop
-member-requires c κs = search needs
+add-at : tie.Need-add-at Inv-loop μ-loop
+add-at c =
+    let p = c .before .before .before .before .before .pre in
+    let i = c .before .before .loop .inv in
+    let l = c .if1 .taken in
+    omega (arith, line-low _ _ _ _ (i .1) _ p l, column-low _ _ _ _ (i .1) _ p l, p .g-high)
+
+cast-at : tie.Need-cast-at Inv-loop μ-loop
+cast-at c =
+    let p = c .before .before .before .before .before .pre in
+    let i = c .before .before .loop .inv in
+    let l = c .if1 .taken in
+    omega (arith, line-low _ _ _ _ (i .1) _ p l, column-low _ _ _ _ (i .1) _ p l, p .g-high)
 
 shared-slice-read-if2 : tie.Need-shared-slice-read-if2 Inv-loop μ-loop
-shared-slice-read-if2 c = search needs
+shared-slice-read-if2 c =
+    let p = c .before .before .before .before .before .before .before .pre in
+    let i = c .before .before .before .before .loop .inv in
+    let l = c .before .before .if1 .taken in
+    unit-low _ _ _ _ (i .1) _ p l
 
 returns : tie.Need-returns Inv-loop μ-loop
 returns c =
-    units-lack (c .before .before .before .before .before .before .before .before .args .flags .now) _ _ _ (c .before .before .before .member .ensures .0) (c .before .before .before .before .if1 .taken) (c .if2 .taken)
+    let i = c .before .before .before .before .before .loop .inv in
+    let l = c .before .before .before .if1 .taken in
+    units-lack (c .before .before .before .before .before .before .before .before .args .flags .now) _ _ _ (at-is _ _ _ _ (i .1)) l (c .if2 .taken)
+
+add-line : tie.Need-add-line Inv-loop μ-loop
+add-line c =
+    let p = c .before .before .before .before .before .before .before .before .before .pre in
+    let i = c .before .before .before .before .before .before .loop .inv in
+    let l = c .before .before .before .before .if1 .taken in
+    omega (arith, line-low _ _ _ _ (i .1) _ p l, p .step)
+
+turned-requires-2 : tie.Need-turned-requires-2 Inv-loop μ-loop
+turned-requires-2 c κs =
+    let p = c .before .before .before .before .before .before .before .before .before .pre in
+    let i = c .before .before .before .before .before .before .loop .inv in
+    let l = c .before .before .before .before .if1 .taken in
+    (column-low _ _ _ _ (i .1) _ p l, p .turn, p .g-high)
 
 add-q : tie.Need-add-q Inv-loop μ-loop
 add-q c = search needs
@@ -33,10 +71,15 @@ loop-less c = search needs
 
 loop-again : tie.Need-loop-again Inv-loop μ-loop
 loop-again c =
-    units-more (c .before .before .before .before .before .before .before .before .args .flags .now) _ _ _ (c .before .before .before .member .ensures .0) (c .before .before .before .before .before .before .loop .inv) (c .before .before .before .before .if1 .taken) (c .if2 .left)
+    let i = c .before .before .before .before .before .before .before .loop .inv in
+    let l = c .before .before .before .before .before .if1 .taken in (
+      units-more (c .before .before .before .before .before .before .before .before .before .before .args .flags .now) _ _ _ (at-is _ _ _ _ (i .1)) (i .0) l (c .before .before .if2 .left),
+      at-next _ _ _ _ (i .1) _ (c .turned2 .ensures),
+    )
 
 returns-2 : tie.Need-returns-2 Inv-loop μ-loop
-returns-2 c = units-all (c .before .before .before .before .args .flags .now) _ _ (c .before .before .loop .inv) (c .if1 .left)
+returns-2 c =
+    units-all (c .before .before .before .before .before .args .flags .now) _ _ (c .before .before .loop .inv .0) (c .if1 .left)
 
 pub lacks-only-spec : {M : Type 1} → statement M
 lacks-only-spec =
@@ -44,10 +87,14 @@ lacks-only-spec =
     (tie.spec
     Inv-loop
     μ-loop
+    turned-requires
     loop-holds
-    member-requires
+    add-at
+    cast-at
     shared-slice-read-if2
     returns
+    add-line
+    turned-requires-2
     add-q
     loop-less
     loop-again
