@@ -26,15 +26,16 @@
  * Devices. When a call returns, its stores are made as the calling thread sees them; their order is not promised. If `array` is
  * memory that a device reads (shared, mapped or persistent), ordering and flushing towards the device are the caller's duty. A
  * write that is cut off before it returns (a crash, a signal that never comes back) may leave sets of its four units bad:
- * himzolven_audit finds them, no function repairs them.
+ * himzolven_audit finds them, no function repairs them. After a rebuild that is cut off, mark the same disks again
+ * and call it again: what they hold does not count.
  *
  * Cost. Each call checks the design anew: docs/SPEED.md has the instructions for each v and k.
  *
  * Linking. The archive calls memset, and memcpy or memmove where the compiler chooses so; nothing else from outside.
  *
  * Threads and stack. No function has state of its own: each may be called from any thread, and several at a time, as long as
- * the lists obey the rules above. No function allocates, blocks, prints or fails to return. Each needs less than 10 KB of stack
- * (docs/SPEED.md has the measure).
+ * the lists obey the rules above. No function allocates, blocks, prints or fails to return. Each needs less than 10 KB of stack,
+ * himzolven_rebuild less than 20 KB (docs/SPEED.md has the measure).
  */
 #ifndef HIMZOLVEN_H
 #define HIMZOLVEN_H
