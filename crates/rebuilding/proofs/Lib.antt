@@ -4,6 +4,7 @@ pub mod Bytes
 pub mod ComeBack
 pub mod Count
 pub mod Example
+pub mod Few
 pub mod Phases
 pub mod Present
 pub mod Reasons

@@ -3,11 +3,12 @@ use geometry::Geometry;
 use geometry::Tuple;
 use refusal::Checked;
 use refusal::Refusal;
-ghost use Prim.Native.Nat.{_≤_, _<_};
+ghost use Prim.Native.Nat.{ℕ, _≤_, _<_};
 ghost use mathlib.Core.Path.{_≡_};
+ghost use mathlib.Core.Bool.{false};
 ghost use mathlib.Core.List.{[], _∷_};
-ghost use lib.ListN.{length};
-ghost use Rattle.counting.specs.Counting.{lowest};
+ghost use lib.ListN.{getD, length};
+ghost use Rattle.counting.specs.Counting.{countBelow, lowest};
 ghost use Rattle.refusal.specs.Refusal.{answer, kept};
 ghost use Rattle.geometry.specs.Geometry.{Sound, tuplesOf, disksOf, bytesOf};
 ghost use Rattle.design.specs.Design.{Laid};
@@ -55,6 +56,35 @@ fn first_incomplete(geometry: Geometry, design: &[u16], lost: &[bool]) -> u32
     tuples
 }
 
+// How many disks are lost.
+fn lost_disks(lost: &[bool]) -> usize
+    ensures { λ r. ⌜ r ≡ countBelow (λ (x : ℕ). getD (now (lost .entry)) x false) (length (now (lost .entry))) ⌝ }
+{
+    let mut n: usize = 0;
+    let mut x: usize = 0;
+    while x < lost.len() {
+        if lost[x] {
+            n += 1;
+        }
+        x += 1;
+    }
+    n
+}
+
+// The same tuple, at once for "at most three disks lost": then none is incomplete (completing, Three-lost-disks-are-rebuilt), and
+// the passes need not run to know it.
+fn lowest_stuck(geometry: Geometry, design: &[u16], lost: &[bool]) -> u32
+    requires { ⌜ Laid geometry (now design) ⌝ }
+    requires { ⌜ length (now lost) ≡ disksOf geometry ⌝ }
+    ensures { λ r. ⌜ ForMarks geometry (now (lost .entry)) (λ marks.
+        r ≡ lowest (incomplete geometry (now (design .entry)) marks) (tuplesOf geometry)) ⌝ }
+{
+    if lost_disks(lost) <= 3 {
+        return geometry.tuples();
+    }
+    first_incomplete(geometry, design, lost)
+}
+
 // "Tuples go upwards": each one's passes, and then the bytes of what they restore. Returns how many units that is.
 fn rebuild_tuples(geometry: Geometry, design: &[u16], lost: &[bool], array: &mut [u8]) -> u32
     requires { ⌜ Laid geometry (now design) ⌝ }
@@ -93,7 +123,7 @@ fn rebuild_lost(geometry: Geometry, design: &[u16], flags: &[bool], array: &mut 
 {
     let disks = geometry.disks() as usize;
     let lost = &flags[..disks];
-    let first = first_incomplete(geometry, design, lost);
+    let first = lowest_stuck(geometry, design, lost);
     if first < geometry.tuples() {
         return Rebuilt::Refused(Refusal {
             number: 13,

@@ -18,8 +18,8 @@ slice-aggregate-lost : tie.Need-slice-aggregate-lost
 slice-aggregate-lost c =
     sym (length-take-le _ _ (omega (arith, c .before .disks .ensures, c .before .before .before .before .before .pre .1 .0)))
 
-first-incomplete-requires : tie.Need-first-incomplete-requires
-first-incomplete-requires c κs =
+lowest-stuck-requires : tie.Need-lowest-stuck-requires
+lowest-stuck-requires c κs =
     (c .before .before .before .before .before .pre .0, length-take-le _ _ (omega (arith, c .before .disks .ensures, c .before .before .before .before .before .pre .1 .0)) ∙ c .before .disks .ensures)
 
 tuples-requires : tie.Need-tuples-requires
@@ -27,7 +27,7 @@ tuples-requires c κs = search needs
 
 returns : tie.Need-returns
 returns c =
-    λ marks w. tuple-refuses _ _ marks _ _ (c .before .before .first-incomplete .ensures marks (front-lost _ marks _ _ (c .before .before .before .before .disks .ensures) w)) (omega (arith, c .if1 .taken, c .before .tuples .ensures))
+    λ marks w. tuple-refuses _ _ marks _ _ (c .before .before .lowest-stuck .ensures marks (front-lost _ marks _ _ (c .before .before .before .before .disks .ensures) w)) (omega (arith, c .if1 .taken, c .before .tuples .ensures))
 
 rebuild-tuples-requires : tie.Need-rebuild-tuples-requires
 rebuild-tuples-requires c κs =
@@ -38,7 +38,7 @@ same-length c = search needs
 
 returns-2 : tie.Need-returns-2
 returns-2 c =
-    λ marks w. let v = front-lost _ marks _ _ (c .before .before .before .before .before .before .before .before .disks .ensures) w in tuples-go _ _ marks _ _ (c .before .before .before .before .before .before .first-incomplete .ensures marks v) (omega (arith, c .before .before .before .before .if1 .left, c .before .before .before .before .before .tuples .ensures)) _ _ (c .before .before .rebuild-tuples .ensures marks v)
+    λ marks w. let v = front-lost _ marks _ _ (c .before .before .before .before .before .before .before .before .disks .ensures) w in tuples-go _ _ marks _ _ (c .before .before .before .before .before .before .lowest-stuck .ensures marks v) (omega (arith, c .before .before .before .before .if1 .left, c .before .before .before .before .before .tuples .ensures)) _ _ (c .before .before .rebuild-tuples .ensures marks v)
 
 pub rebuild-lost-spec : {M : Type 1} → statement M
 rebuild-lost-spec =
@@ -47,7 +47,7 @@ rebuild-lost-spec =
     disks-requires
     cast-disks
     slice-aggregate-lost
-    first-incomplete-requires
+    lowest-stuck-requires
     tuples-requires
     returns
     rebuild-tuples-requires
