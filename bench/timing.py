@@ -35,7 +35,8 @@ cleared, then every unit of a set is XORed into it; "first copied": the first un
 REBUILD = """
 Rebuild of one disk, of three disks of one group, and of two of one group and one of another, us, the design check included. C is
 given the places and checks nothing; it has the same two phases: first the passes over the flags of every tuple that a lost disk
-touches, then those passes again, with the bytes by their log. Same passes, as of the audit: the unit is cleared, then every source is
+touches, then those passes again, with the bytes by their log. (The library leaves the first
+phase out where at most three disks are lost, as here.) Same passes, as of the audit: the unit is cleared, then every source is
 XORed into it; "first copied": the first source is copied over it instead, a pass fewer. From memory: a rebuild touches a small part of an array, so what it touches is flushed out of all caches, and its
 pages out of those translated, before it is timed. Hot: what it touches fits the second cache.
 """
