@@ -1,0 +1,6 @@
+pub mod Settle
+pub mod Calls
+pub mod Heard
+pub mod ForC
+pub mod Same
+pub mod Theorems

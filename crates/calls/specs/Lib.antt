@@ -1,0 +1,5 @@
+pub mod Refuses
+pub mod Heard
+pub mod Calls
+pub mod Same
+pub mod Theorems

@@ -1,0 +1,1 @@
+// Demand 1 of every public call, gathered: definitions and theorems only.
