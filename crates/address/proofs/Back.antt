@@ -14,13 +14,15 @@ use Rattle.geometry.specs.Geometry.{userUnitsOf}
 use Rattle.design.specs.Design.{Laid}
 use Rattle.sizes.specs.Sizes.{sizesRules}
 use Rattle.sizes.proofs.Reasons.{accepted-is-laid}
+use Rattle.numbering.specs.Positions.{parityPosition}
+use Rattle.numbering.specs.Numbering.{userTuple, userRow, userColumn}
 use Rattle.cells.specs.declared.Cell.{Cell}
 use Rattle.cells.specs.declared.Role.{Role}
 use Rattle.cells.specs.declared.Role.the-variants.{User}
-use Rattle.cells.specs.Cells.{diagonalOf, parityPosition}
+use Rattle.cells.specs.Cells.{diagonalOf}
 use Rattle.cells.specs.Ranges.{CellIn, RoleIn}
-use Rattle.cells.specs.Roles.{userTuple, userRow, userColumn, userCell, userOuter, innerOf, user, outer, inner, cellOf}
-use Rattle.cells.proofs.Numbering.{digits-in}
+use Rattle.cells.specs.Roles.{userCell, userOuter, innerOf, user, outer, inner, cellOf}
+use Rattle.numbering.proofs.Numbering.{digits-in}
 use Rattle.cells.proofs.Roles.{user-cell-in, outer-cell-in, inner-cell-in}
 use Rattle.cells.proofs.Sets.{diagonal-in}
 use Rattle.layout.specs.declared.Place.{Place}

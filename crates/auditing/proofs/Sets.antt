@@ -10,8 +10,8 @@ use lib.ListN.{getD, length}
 use Rattle.geometry.specs.declared.Geometry.{Geometry}
 use Rattle.geometry.specs.Geometry.{Sound, tuplesOf, tupleSetsOf, setsOf, bytesOf}
 use Rattle.geometry.proofs.Laws.{sets-bound}
-use Rattle.cells.specs.Sets.{outerNumber, innerNumber}
-use Rattle.cells.specs.Ranges.{OuterIn, InnerIn}
+use Rattle.numbering.specs.Numbering.{outerNumber, innerNumber}
+use Rattle.numbering.specs.Ranges.{OuterIn, InnerIn}
 use Rattle.leaves.specs.Bytes.{Inside, zeroSum}
 use Rattle.consistent.specs.Consistent.{setZero}
 use Rattle.consistent.proofs.Numbers.{set-starts-outer, set-starts-inner}

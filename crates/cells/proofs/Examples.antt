@@ -2,14 +2,11 @@
 use mathlib.Core.Path.{refl}
 use Rattle.counting.specs.Lists.{listOf}
 use Rattle.geometry.specs.Geometry.{tupleSetsOf}
-use Rattle.cells.specs.Cells.{labelColumn, labelAt, diagonalColumn, diagonalAt, parityPosition, dataPosition, dataNumber}
-use Rattle.cells.specs.Sets.{outerNumber, innerNumber}
-use Rattle.cells.specs.Roles.{userNumber, userColumn, userRow, userRegion, userTuple, userCell, roleOf, cellOf}
-use Rattle.cells.specs.Figure.{Figure-4, Last-tuple}
-
-pub figure-4 : Figure-4
-unfolding listOf labelAt diagonalColumn diagonalAt
-figure-4 = record { region-0 = refl; region-1 = refl; region-2 = refl; P0 = refl; P1 = refl; P2 = refl }
+use Rattle.region.specs.Columns.{labelColumn, labelAt, diagonalAt}
+use Rattle.numbering.specs.Positions.{parityPosition, dataPosition, dataNumber}
+use Rattle.numbering.specs.Numbering.{userNumber, userColumn, userRow, userRegion, userTuple, outerNumber, innerNumber}
+use Rattle.cells.specs.Roles.{userCell, roleOf, cellOf}
+use Rattle.cells.specs.Figure.{Last-tuple}
 
 pub last-tuple : Last-tuple
 unfolding labelColumn labelAt diagonalAt parityPosition dataPosition dataNumber userNumber userColumn userRow userRegion userTuple userCell roleOf cellOf listOf tupleSetsOf outerNumber innerNumber

@@ -1,9 +1,4 @@
-pub mod Turns
-pub mod Positions
-pub mod Numbering
 pub mod Sets
-pub mod SetNumbers
-pub mod Meets
 pub mod Roles
 pub mod Examples
 pub mod Steps

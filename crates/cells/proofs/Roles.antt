@@ -7,19 +7,21 @@ use lib.Dec.{eqb}
 use borrow.Author.Tests.{eq-eqb, ne-eqb, eqb-true, eqb-false}
 use Rattle.geometry.specs.declared.Geometry.{Geometry}
 use Rattle.geometry.specs.Geometry.{Sound, userUnitsOf}
+use Rattle.region.proofs.Turns.{parity-column, parity-diagonal}
+use Rattle.numbering.specs.Positions.{parityPosition, dataPosition, dataNumber}
+use Rattle.numbering.specs.Ranges.{OuterIn, InnerIn, UserIn}
+use Rattle.numbering.specs.Numbering.{userNumber, userColumn, userRow, userRegion, userTuple}
+use Rattle.numbering.proofs.Positions.{parityPosition-lt, dataPosition-lt, dataPosition-other, dataNumber-lt}
+use Rattle.numbering.proofs.Positions.{number-of-position, position-of-number}
+use Rattle.numbering.proofs.Numbering.{number-lt, column-of-number, row-of-number, region-of-number, tuple-of-number}
+use Rattle.numbering.proofs.Numbering.{number-of-digits, digits-in}
 use Rattle.cells.specs.declared.Cell.{Cell}
 use Rattle.cells.specs.declared.Role.{Role}
 use Rattle.cells.specs.declared.Role.the-variants.{User, Outer, Inner}
-use Rattle.cells.specs.Cells.{labelOf, diagonalOf, parityPosition, dataPosition, dataNumber}
+use Rattle.cells.specs.Cells.{labelOf, diagonalOf}
 use Rattle.cells.specs.Sets.{outerMember, outerParity, innerParity}
-use Rattle.cells.specs.Ranges.{CellIn, RoleIn, OuterIn, InnerIn, UserIn}
-use Rattle.cells.specs.Roles.{userNumber, userColumn, userRow, userRegion, userTuple}
+use Rattle.cells.specs.Ranges.{CellIn, RoleIn}
 use Rattle.cells.specs.Roles.{userCell, user, outer, inner, roleOf, cellOf}
-use Rattle.cells.proofs.Turns.{parity-column, parity-diagonal}
-use Rattle.cells.proofs.Positions.{parityPosition-lt, dataPosition-lt, dataPosition-other, dataNumber-lt}
-use Rattle.cells.proofs.Positions.{number-of-position, position-of-number}
-use Rattle.cells.proofs.Numbering.{number-lt, column-of-number, row-of-number, region-of-number, tuple-of-number}
-use Rattle.cells.proofs.Numbering.{number-of-digits, digits-in}
 use Rattle.cells.proofs.Sets.{outer-member-in, member-label, label-column, label-in, diagonal-column, diagonal-in}
 
 -- the cell is in row g-1, or at the parity's position

@@ -4,14 +4,15 @@ use mathlib.Core.Path.{_≡_, _∙_, ap, sym}
 use native.Mathlib.Omega.{arith}
 use Rattle.geometry.specs.declared.Geometry.{Geometry}
 use Rattle.geometry.specs.Geometry.{Sound}
+use Rattle.region.specs.Columns.{labelColumn, diagonalColumn}
+use Rattle.region.proofs.Turns.{label-of-column, column-of-label, labelColumn-lt, labelAt-lt}
+use Rattle.region.proofs.Turns.{diagonal-of-column, column-of-diagonal, diagonalColumn-lt, diagonalAt-lt, parity-column}
+use Rattle.numbering.specs.Ranges.{OuterIn, InnerIn}
 use Rattle.cells.specs.declared.Cell.{Cell}
-use Rattle.cells.specs.Cells.{cell, labelColumn, diagonalColumn, labelOf, diagonalOf}
+use Rattle.cells.specs.Cells.{cell, labelOf, diagonalOf}
 use Rattle.cells.specs.Sets.{outerMember, innerMember, innerParity, InOuter, InInner}
-use Rattle.cells.specs.Ranges.{CellIn, OuterIn, InnerIn}
+use Rattle.cells.specs.Ranges.{CellIn}
 use Rattle.cells.specs.Theorems.{OneInner, OneOuter}
-use Rattle.cells.proofs.Turns.{label-of-column, column-of-label, labelColumn-lt, labelAt-lt}
-use Rattle.cells.proofs.Turns.{diagonal-of-column, column-of-diagonal, diagonalColumn-lt, diagonalAt-lt}
-use Rattle.cells.proofs.Turns.{parity-column}
 
 module _ (G : Geometry) (s : Sound G) where
   -- the members of a set are cells, with the set's label or on the set's diagonal

@@ -1,18 +1,18 @@
 -- The theorems of specs/Theorems.antt, in its order. Assumes nothing.
 use mathlib.Core.Path.{_∙_, ap, refl, sym, subst⁻¹}
 use native.Mathlib.Omega.{arith}
+use Rattle.region.specs.Columns.{labelColumn}
+use Rattle.region.specs.Theorems.{Column}
+use Rattle.region.proofs.Theorems.{the-columns-of-a-diagonal}
+use Rattle.numbering.specs.Positions.{parityPosition}
+use Rattle.numbering.specs.Numbering.{userNumber}
+use Rattle.numbering.proofs.Positions.{parityPosition-lt, data-position}
 use Rattle.cells.specs.declared.Cell.{Cell}
-use Rattle.cells.specs.Cells.{labelColumn, parityPosition}
 use Rattle.cells.specs.Sets.{outerMember}
-use Rattle.cells.specs.Roles.{userNumber, cellOf}
+use Rattle.cells.specs.Roles.{cellOf}
 use Rattle.cells.specs.Theorems
-use Rattle.cells.proofs.Turns.{diagonalColumn-lt, row-of-column, parity-column}
-use Rattle.cells.proofs.Positions.{parityPosition-lt, data-position}
-use Rattle.cells.proofs.Numbering as numbering
 use Rattle.cells.proofs.Sets as sets
-use Rattle.cells.proofs.SetNumbers as numbers
 use Rattle.cells.proofs.Roles as roles
-pub use Rattle.cells.proofs.Meets.{two-labels-meet-once}
 
 pub the-cell-of-a-user-unit : Theorems.The-cell-of-a-user-unit
 unfolding cellOf userNumber labelColumn
@@ -36,34 +36,15 @@ cells-and-roles-are-inverse G s =
       again = roles.cell-of-role G s;
     }
 
-pub user-units-are-numbered : Theorems.User-units-are-numbered
-user-units-are-numbered G s =
-    record {
-      digits = λ n h. numbering.digits-in G n s h;
-      number = numbering.number-of-digits G;
-      low = numbering.number-lt G;
-      tuple = numbering.tuple-of-number G;
-      region = numbering.region-of-number G;
-      row = numbering.row-of-number G;
-      column = numbering.column-of-number G;
-    }
-
-pub the-columns-of-a-diagonal : Theorems.The-columns-of-a-diagonal
-the-columns-of-a-diagonal g i j h q =
-    record { low = diagonalColumn-lt g j i (omega arith); turned = row-of-column g j i (omega arith) h }
-
 pub the-members-of-an-inner-set : Theorems.The-members-of-an-inner-set
 the-members-of-an-inner-set G s t l j h x m =
-    subst⁻¹ (λ (y : Cell). Theorems.Column (G .g) (y .row) j (y .column)) (m .2)
+    subst⁻¹ (λ (y : Cell). Column (G .g) (y .row) j (y .column)) (m .2)
     (the-columns-of-a-diagonal (G .g) (m .0) j (m .1) (h .diagonal))
 
 pub the-members-of-an-outer-set : Theorems.The-members-of-an-outer-set
 unfolding labelColumn
 the-members-of-an-outer-set G t i c x m =
     m .2 ∙ ap (outerMember G t i c) (sym (ap (λ (y : Cell). y .position) (m .2)))
-
-pub the-parity-is-on-its-diagonal : Theorems.The-parity-is-on-its-diagonal
-the-parity-is-on-its-diagonal = parity-column
 
 pub the-parities-are-in-their-sets : Theorems.The-parities-are-in-their-sets
 unfolding cellOf
@@ -87,14 +68,3 @@ each-labelled-unit-in-one-outer-set = sets.one-outer
 
 pub the-last-row-in-no-outer-set : Theorems.The-last-row-in-no-outer-set
 the-last-row-in-no-outer-set G x e t i c h m = omega (arith, ap (λ (y : Cell). y .row) (m .2))
-
-pub sets-are-numbered : Theorems.Sets-are-numbered
-sets-are-numbered G s =
-    record {
-      outer-low = numbers.outer-number-lt G;
-      inner-low = numbers.inner-number-lt G;
-      outer-only = numbers.outer-number-only G;
-      inner-only = numbers.inner-number-only G;
-      apart = numbers.outer-inner-number G;
-      every = numbers.set-of-number G s;
-    }

@@ -1,43 +1,16 @@
--- 01, "The two parities": the user numbering and the role of a cell. Assumes nothing.
-use Prim.Native.Nat.{ℕ, _+_, _-_, _*_, _/_, _%_}
+-- 01, "The two parities": the cell of a user unit and the role of a cell. Assumes nothing.
+use Prim.Native.Nat.{ℕ, _-_}
 use mathlib.Core.Bool.{cond}
 use lib.Dec.{eqb}
 use Rattle.geometry.specs.declared.Geometry.{Geometry}
+use Rattle.numbering.specs.declared.Digits.{Digits}
+use Rattle.numbering.specs.Positions.{parityPosition, dataPosition, dataNumber}
+use Rattle.numbering.specs.Numbering.{userNumber, digitsOf}
 use Rattle.cells.specs.declared.Cell.{Cell}
-use Rattle.cells.specs.declared.Digits.{Digits}
 use Rattle.cells.specs.declared.Role.{Role}
 use Rattle.cells.specs.declared.Role.the-variants.{User, Outer, Inner}
-use Rattle.cells.specs.Cells.{labelOf, diagonalOf, parityPosition, dataPosition, dataNumber}
+use Rattle.cells.specs.Cells.{labelOf, diagonalOf}
 use Rattle.cells.specs.Sets.{outerMember, outerParity, innerParity}
-
--- "n = ((t·(k-1) + l)·(g-1) + i)·g + c" [for 1 ≤ k and 1 ≤ g]; l is the number of the data region
-unfoldable pub userNumber : Geometry → (t l i c : ℕ) → ℕ
-userNumber G t l i c = ((t * (G .k - 1) + l) * (G .g - 1) + i) * G .g + c
-
--- the c of a user unit's number [for 1 ≤ g]
-unfoldable pub userColumn : Geometry → ℕ → ℕ
-userColumn G n = n % G .g
-
--- its i [for 2 ≤ g]
-unfoldable pub userRow : Geometry → ℕ → ℕ
-userRow G n = n / G .g % (G .g - 1)
-
--- its l [for 2 ≤ g and 2 ≤ k]
-unfoldable pub userRegion : Geometry → ℕ → ℕ
-userRegion G n = n / G .g / (G .g - 1) % (G .k - 1)
-
--- its t [for 2 ≤ g and 2 ≤ k]
-unfoldable pub userTuple : Geometry → ℕ → ℕ
-userTuple G n = n / G .g / (G .g - 1) / (G .k - 1)
-
-abbrev pub digitsOf : Geometry → ℕ → Digits
-digitsOf G n =
-    record {
-      tuple = record { 0 = userTuple G n };
-      region = userRegion G n;
-      row = userRow G n;
-      column = userColumn G n;
-    }
 
 -- the cell of the label and data region that the digits name, and the outer parity of the label
 abbrev pub dataCell : Geometry → Digits → Cell

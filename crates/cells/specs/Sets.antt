@@ -1,10 +1,11 @@
--- 01, "The two parities" and "Calls" (audit): the sets, their members and their numbers. Assumes nothing.
-use Prim.Native.Nat.{ℕ, _+_, _-_, _*_, _<_}
+-- 01, "The two parities": the sets and their members. Assumes nothing.
+use Prim.Native.Nat.{ℕ, _-_, _<_}
 use mathlib.Core.Path.{_≡_}
 use Rattle.geometry.specs.declared.Geometry.{Geometry}
-use Rattle.geometry.specs.Geometry.{tupleSetsOf}
+use Rattle.region.specs.Columns.{labelColumn, diagonalColumn, parityColumn}
+use Rattle.numbering.specs.Positions.{parityPosition}
 use Rattle.cells.specs.declared.Cell.{Cell}
-use Rattle.cells.specs.Cells.{cell, labelColumn, diagonalColumn, parityPosition}
+use Rattle.cells.specs.Cells.{cell}
 
 -- "The k units with one label form an outer set": the member at position l of the outer set (t,i,c)
 abbrev pub outerMember : Geometry → (t i c l : ℕ) → Cell
@@ -20,15 +21,7 @@ outerParity G t i c = outerMember G t i c (parityPosition G t)
 
 -- "Row g-1 holds its parity, in column g-1-j": the inner parity of (t,l,j) [for j < g]
 abbrev pub innerParity : Geometry → (t l j : ℕ) → Cell
-innerParity G t l j = cell t l (G .g - 1) (G .g - 1 - j)
-
--- "numbers every set, t·((g-1)g + kg) plus i·g+c for outer"
-unfoldable pub outerNumber : Geometry → (t i c : ℕ) → ℕ
-outerNumber G t i c = t * tupleSetsOf G + (i * G .g + c)
-
--- "plus (g-1)g + l·g + j for inner" [for 1 ≤ g]
-unfoldable pub innerNumber : Geometry → (t l j : ℕ) → ℕ
-innerNumber G t l j = t * tupleSetsOf G + ((G .g - 1) * G .g + l * G .g + j)
+innerParity G t l j = cell t l (G .g - 1) (parityColumn (G .g) j)
 
 -- the cell is in the outer set (t,i,c)
 abbrev pub InOuter : Geometry → (t i c : ℕ) → Cell → Type 0

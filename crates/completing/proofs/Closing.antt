@@ -16,10 +16,11 @@ use Rattle.counting.proofs.Laws.{count-lt, count-only}
 use Rattle.geometry.specs.declared.Geometry.{Geometry}
 use Rattle.geometry.specs.Geometry.{tuplesOf}
 use Rattle.design.specs.Design.{groupAt, Laid}
+use Rattle.region.specs.Columns.{labelColumn, diagonalColumn}
 use Rattle.cells.specs.declared.Cell.{Cell}
-use Rattle.cells.specs.Cells.{cell, labelColumn, diagonalColumn, labelOf, diagonalOf}
+use Rattle.cells.specs.Cells.{cell, labelOf, diagonalOf}
 use Rattle.cells.specs.Ranges.{CellIn}
-use Rattle.cells.proofs.Turns.{labelColumn-lt, diagonalColumn-lt, diagonal-once}
+use Rattle.region.proofs.Turns.{labelColumn-lt, diagonalColumn-lt, diagonal-once}
 use Rattle.cells.proofs.Sets.{diagonal-in, diagonal-column}
 use Rattle.layout.specs.Places.{placeOf}
 use Rattle.layout.specs.Marks.{lost}

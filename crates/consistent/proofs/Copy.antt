@@ -9,12 +9,13 @@ use lib.ListN.{getD}
 use Rattle.counting.specs.Lists.{listOf}
 use Rattle.geometry.specs.declared.Geometry.{Geometry}
 use Rattle.design.specs.Design.{Laid}
-use Rattle.cells.specs.Cells.{parityPosition, dataPosition}
+use Rattle.numbering.specs.Positions.{parityPosition, dataPosition}
+use Rattle.numbering.specs.Numbering.{userTuple, userRegion, userRow, userColumn}
+use Rattle.numbering.specs.Ranges.{OuterIn, UserIn}
 use Rattle.cells.specs.Sets.{outerMember}
-use Rattle.cells.specs.Roles.{userTuple, userRegion, userRow, userColumn, userCell, userOuter}
-use Rattle.cells.specs.Ranges.{OuterIn, UserIn}
-use Rattle.cells.proofs.Positions.{parityPosition-lt, dataPosition-lt, dataPosition-other}
-use Rattle.cells.proofs.Numbering.{digits-in}
+use Rattle.cells.specs.Roles.{userCell, userOuter}
+use Rattle.numbering.proofs.Positions.{parityPosition-lt, dataPosition-lt, dataPosition-other}
+use Rattle.numbering.proofs.Numbering.{digits-in}
 use Rattle.cells.proofs.Roles.{user-cell-in, outer-cell-in}
 use Rattle.leaves.specs.Bytes.{sumAt}
 use Rattle.leaves.proofs.Runs.{bytes-run, same-bytes}

@@ -10,11 +10,13 @@ use lib.Seq.{ext-getD}
 use Rattle.geometry.specs.declared.Geometry.{Geometry}
 use Rattle.geometry.specs.Geometry.{Sound, userUnitsOf, bytesOf}
 use Rattle.design.specs.Design.{Laid}
+use Rattle.numbering.specs.Positions.{parityPosition}
+use Rattle.numbering.specs.Numbering.{userNumber}
 use Rattle.cells.specs.declared.Cell.{Cell}
 use Rattle.cells.specs.declared.Role.{Role}
-use Rattle.cells.specs.Cells.{cell, labelOf, diagonalOf, parityPosition}
+use Rattle.cells.specs.Cells.{cell, labelOf, diagonalOf}
 use Rattle.cells.specs.Sets.{outerMember, innerMember}
-use Rattle.cells.specs.Roles.{userNumber, userCell, cellOf}
+use Rattle.cells.specs.Roles.{userCell, cellOf}
 use Rattle.cells.specs.Ranges.{CellIn, RoleIn}
 use Rattle.cells.proofs.Sets.{outer-member-in, inner-member-in, label-in, label-column, diagonal-in, diagonal-column}
 use Rattle.cells.proofs.Roles.{LastRow, AtParity, dataRegion, role-user}

@@ -12,12 +12,14 @@ use Rattle.counting.proofs.Lists.{listOf-length, listOf-at}
 use Rattle.geometry.specs.declared.Geometry.{Geometry}
 use Rattle.geometry.specs.Geometry.{Sound, tupleSetsOf, setsOf, bytesOf}
 use Rattle.design.specs.Design.{Laid}
+use Rattle.numbering.specs.Numbering.{outerNumber, innerNumber}
+use Rattle.numbering.specs.Ranges.{OuterIn, InnerIn}
+use Rattle.numbering.specs.Theorems.{ASet}
 use Rattle.cells.specs.declared.Cell.{Cell}
-use Rattle.cells.specs.Sets.{outerMember, innerMember, outerNumber, innerNumber}
-use Rattle.cells.specs.Ranges.{CellIn, OuterIn, InnerIn}
-use Rattle.cells.specs.Theorems.{ASet}
+use Rattle.cells.specs.Sets.{outerMember, innerMember}
+use Rattle.cells.specs.Ranges.{CellIn}
+use Rattle.numbering.proofs.Theorems.{sets-are-numbered}
 use Rattle.cells.proofs.Sets.{outer-member-in, inner-member-in}
-use Rattle.cells.proofs.Theorems.{sets-are-numbered}
 use Rattle.leaves.specs.Bytes.{Inside, Spread}
 use Rattle.array.specs.Array.{cellStart}
 use Rattle.array.proofs.Theorems.{each-unit-lies-in-the-array, no-two-units-share-a-byte}

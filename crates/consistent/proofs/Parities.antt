@@ -5,9 +5,9 @@ use mathlib.Core.Bool.{true}
 use mathlib.Core.List.{List}
 use Rattle.geometry.specs.declared.Geometry.{Geometry}
 use Rattle.geometry.specs.Geometry.{Sound}
-use Rattle.cells.specs.Sets.{outerNumber, innerNumber}
-use Rattle.cells.specs.Ranges.{OuterIn, InnerIn}
-use Rattle.cells.proofs.Theorems.{sets-are-numbered}
+use Rattle.numbering.specs.Numbering.{outerNumber, innerNumber}
+use Rattle.numbering.specs.Ranges.{OuterIn, InnerIn}
+use Rattle.numbering.proofs.Theorems.{sets-are-numbered}
 use Rattle.leaves.specs.Bytes.{sumAt, zeroSum}
 use Rattle.leaves.proofs.Zeros.{zero-is, zero-holds}
 use Rattle.consistent.specs.Consistent.{outerStarts, innerStarts, setZero, Consistent}

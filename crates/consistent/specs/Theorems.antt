@@ -7,9 +7,9 @@ use lib.ListN.{length}
 use Rattle.geometry.specs.declared.Geometry.{Geometry}
 use Rattle.geometry.specs.Geometry.{Sound, userUnitsOf, bytesOf}
 use Rattle.design.specs.Design.{Laid}
-use Rattle.cells.specs.Sets.{outerNumber, innerNumber}
+use Rattle.numbering.specs.Numbering.{outerNumber, innerNumber}
+use Rattle.numbering.specs.Ranges.{OuterIn, InnerIn}
 use Rattle.cells.specs.Roles.{userCell, userOuter}
-use Rattle.cells.specs.Ranges.{OuterIn, InnerIn}
 use Rattle.leaves.specs.Bytes.{run, sumAt}
 use Rattle.array.specs.Array.{cellStart, formattedArray}
 use Rattle.consistent.specs.Consistent.{outerStarts, innerStarts, setStarts, Consistent}

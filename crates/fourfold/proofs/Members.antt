@@ -9,9 +9,10 @@ use Rattle.counting.specs.Lists.{listOf}
 use Rattle.counting.proofs.Lists.{listOf-length, listOf-at}
 use Rattle.geometry.specs.declared.Geometry.{Geometry}
 use Rattle.design.specs.Design.{Laid}
+use Rattle.numbering.specs.Ranges.{OuterIn, InnerIn}
 use Rattle.cells.specs.declared.Cell.{Cell}
 use Rattle.cells.specs.Sets.{outerMember, innerMember, InOuter, InInner}
-use Rattle.cells.specs.Ranges.{CellIn, OuterIn, InnerIn}
+use Rattle.cells.specs.Ranges.{CellIn}
 use Rattle.cells.proofs.Sets.{outer-member-in, inner-member-in}
 use Rattle.leaves.specs.Bytes.{addAt, addAll, sumAt, Apart, Inside, Spread}
 use Rattle.leaves.proofs.Runs.{length-addAt, addAt-comm, further}

@@ -6,9 +6,10 @@ use native.Mathlib.Omega.{arith}
 use Rattle.geometry.specs.declared.Geometry.{Geometry}
 use Rattle.geometry.specs.Geometry.{userUnitsOf, bytesOf}
 use Rattle.design.specs.Design.{Laid}
+use Rattle.numbering.specs.Numbering.{userTuple, userRow, userColumn}
 use Rattle.cells.specs.Ranges.{CellIn}
-use Rattle.cells.specs.Roles.{userTuple, userRow, userColumn, userOuter}
-use Rattle.cells.proofs.Numbering.{digits-in}
+use Rattle.cells.specs.Roles.{userOuter}
+use Rattle.numbering.proofs.Numbering.{digits-in}
 use Rattle.cells.proofs.Roles.{user-cell-in, outer-cell-in}
 use Rattle.layout.specs.declared.Place.{Place}
 use Rattle.layout.specs.declared.Four.{Four}

@@ -10,12 +10,13 @@ use lib.ListN.{length}
 use Rattle.geometry.specs.declared.Geometry.{Geometry}
 use Rattle.geometry.specs.Geometry.{Sound, userUnitsOf, bytesOf}
 use Rattle.design.specs.Design.{Laid}
+use Rattle.numbering.specs.Ranges.{OuterIn, InnerIn}
 use Rattle.cells.specs.declared.Cell.{Cell}
 use Rattle.cells.specs.Cells.{diagonalOf}
 use Rattle.cells.specs.Sets.{InOuter, InInner}
-use Rattle.cells.specs.Ranges.{CellIn, OuterIn, InnerIn}
+use Rattle.cells.specs.Ranges.{CellIn}
 use Rattle.cells.specs.Roles.{userCell, userOuter, innerOf}
-use Rattle.cells.proofs.Numbering.{digits-in}
+use Rattle.numbering.proofs.Numbering.{digits-in}
 use Rattle.cells.proofs.Sets.{diagonal-in, on-diagonal, parity-in}
 use Rattle.cells.proofs.Roles.{user-cell-in, outer-cell-in}
 use Rattle.cells.proofs.Theorems.{each-unit-in-one-inner-set, each-labelled-unit-in-one-outer-set}

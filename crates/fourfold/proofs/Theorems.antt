@@ -10,11 +10,12 @@ use lib.ListN.{getD, length}
 use Rattle.geometry.specs.declared.Geometry.{Geometry}
 use Rattle.geometry.specs.declared.UserUnit.{UserUnit}
 use Rattle.geometry.specs.Geometry.{userUnitsOf}
+use Rattle.numbering.specs.Numbering.{userTuple, userRow, userColumn}
 use Rattle.cells.specs.declared.Cell.{Cell}
 use Rattle.cells.specs.Ranges.{CellIn}
 use Rattle.cells.specs.Cells.{diagonalOf}
-use Rattle.cells.specs.Roles.{userTuple, userRow, userColumn, userCell, userOuter, innerOf, user, outer, inner, roleOf}
-use Rattle.cells.proofs.Numbering.{digits-in}
+use Rattle.cells.specs.Roles.{userCell, userOuter, innerOf, user, outer, inner, roleOf}
+use Rattle.numbering.proofs.Numbering.{digits-in}
 use Rattle.cells.proofs.Roles.{user-cell-in, role-of-user, role-of-outer, role-of-inner}
 use Rattle.cells.proofs.Sets.{diagonal-in}
 use Rattle.leaves.specs.Bytes.{written, differenceAt, Apart}

@@ -1,4 +1,5 @@
 pub mod Laws
 pub mod Multiples
+pub mod Fits
 pub mod Examples
 pub mod Theorems

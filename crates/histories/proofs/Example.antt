@@ -13,8 +13,10 @@ use Rattle.geometry.specs.Geometry.{beyondLimits, rOf, bOf, whole, noDivisorBel
 use Rattle.design.specs.Design.{groupAt, names}
 use Rattle.checking.specs.Rules.{rowBad, rowsWith, pairBad, designRules}
 use Rattle.sizes.specs.Sizes.{sizesRules}
-use Rattle.cells.specs.Cells.{labelColumn, labelAt, diagonalColumn, diagonalAt, parityPosition, dataPosition}
-use Rattle.cells.specs.Roles.{userColumn, userRow, userRegion, userTuple, userCell, userOuter, innerOf}
+use Rattle.region.specs.Columns.{labelColumn, labelAt, diagonalColumn, diagonalAt}
+use Rattle.numbering.specs.Positions.{parityPosition, dataPosition}
+use Rattle.numbering.specs.Numbering.{userColumn, userRow, userRegion, userTuple}
+use Rattle.cells.specs.Roles.{userCell, userOuter, innerOf}
 use Rattle.layout.specs.Marks.{lost}
 use Rattle.layout.specs.Places.{placeOf, fourOf}
 use Rattle.layout.specs.Regions.{partOf}

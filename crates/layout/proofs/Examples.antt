@@ -3,8 +3,10 @@ use mathlib.Core.Path.{refl}
 use Rattle.counting.specs.Counting.{countBelow, lowest}
 use Rattle.geometry.specs.Geometry.{bOf, tuplesOf}
 use Rattle.design.specs.Design.{groupAt, names}
-use Rattle.cells.specs.Cells.{labelColumn, diagonalAt, parityPosition, dataPosition}
-use Rattle.cells.specs.Roles.{userColumn, userRow, userRegion, userTuple, userCell, userOuter, innerOf}
+use Rattle.region.specs.Columns.{labelColumn, diagonalAt}
+use Rattle.numbering.specs.Positions.{parityPosition, dataPosition}
+use Rattle.numbering.specs.Numbering.{userColumn, userRow, userRegion, userTuple}
+use Rattle.cells.specs.Roles.{userCell, userOuter, innerOf}
 use Rattle.layout.specs.Regions.{partOf, tupleOf, positionOf}
 use Rattle.layout.specs.Places.{placeOf, cellAt, fourOf}
 use Rattle.layout.specs.Figure.{Figure-4}

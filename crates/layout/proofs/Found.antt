@@ -11,10 +11,11 @@ use Rattle.geometry.specs.Geometry.{Sound, tuplesOf, disksOf, unitsOf}
 use Rattle.geometry.proofs.Laws.{entries-bound, disks-bound, units-bound}
 use Rattle.design.specs.Design.{groupAt, Laid}
 use Rattle.design.proofs.Entries.{isEntry, entryOf, entries-count, PartEntry, part-entry}
+use Rattle.numbering.specs.declared.Digits.{Digits}
+use Rattle.numbering.specs.Numbering.{digitsOf}
 use Rattle.cells.specs.declared.Cell.{Cell}
-use Rattle.cells.specs.declared.Digits.{Digits}
 use Rattle.cells.specs.Cells.{cell}
-use Rattle.cells.specs.Roles.{digitsOf, dataCell, parityCell, userCell, userOuter, innerOf}
+use Rattle.cells.specs.Roles.{dataCell, parityCell, userCell, userOuter, innerOf}
 use Rattle.layout.specs.declared.Place.{Place}
 use Rattle.layout.specs.declared.Region.{Region}
 use Rattle.layout.specs.declared.Pair.{Pair}

@@ -8,16 +8,18 @@ use Rattle.geometry.specs.declared.Disk.{Disk}
 use Rattle.geometry.specs.Geometry.{tuplesOf, userUnitsOf}
 use Rattle.design.specs.Design.{groupAt, Laid}
 use Rattle.design.proofs.Rows.{row-once}
+use Rattle.numbering.specs.Ranges.{OuterIn, InnerIn, UserIn}
+use Rattle.numbering.specs.Numbering.{userTuple, userRegion, userRow, userColumn}
 use Rattle.cells.specs.declared.Cell.{Cell}
 use Rattle.cells.specs.Cells.{diagonalOf}
 use Rattle.cells.specs.Sets.{outerMember, innerMember, InOuter, InInner}
-use Rattle.cells.specs.Ranges.{CellIn, OuterIn, InnerIn, UserIn}
-use Rattle.cells.specs.Roles.{userTuple, userRegion, userRow, userColumn, userCell, userOuter, innerOf}
+use Rattle.cells.specs.Ranges.{CellIn}
+use Rattle.cells.specs.Roles.{userCell, userOuter, innerOf}
 use Rattle.layout.specs.Places.{placeOf, fourOf}
 use Rattle.layout.specs.Theorems.{FourApart}
-use Rattle.cells.proofs.Turns.{diagonal-once}
-use Rattle.cells.proofs.Positions.{dataPosition-other}
-use Rattle.cells.proofs.Numbering.{digits-only, digits-in}
+use Rattle.region.proofs.Turns.{diagonal-once}
+use Rattle.numbering.proofs.Positions.{dataPosition-other}
+use Rattle.numbering.proofs.Numbering.{digits-only, digits-in}
 use Rattle.cells.proofs.Sets.{outer-member-in, inner-member-in, diagonal-in, on-diagonal, parity-in}
 use Rattle.cells.proofs.Roles.{user-cell-in, outer-cell-in, inner-cell-in}
 

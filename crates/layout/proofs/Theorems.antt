@@ -13,7 +13,7 @@ use Rattle.cells.specs.declared.Cell.{Cell}
 use Rattle.cells.specs.Cells.{diagonalOf}
 use Rattle.cells.specs.Roles.{userCell, userOuter, innerOf, user, inner, roleOf, cellOf}
 use Rattle.cells.specs.Ranges.{CellIn}
-use Rattle.cells.proofs.Numbering.{digits-in}
+use Rattle.numbering.proofs.Numbering.{digits-in}
 use Rattle.cells.proofs.Sets as sets
 use Rattle.cells.proofs.Roles as roles
 use Rattle.layout.specs.Regions.{partOf}

@@ -10,12 +10,15 @@ use Rattle.counting.specs.Counting.{countBelow}
 use Rattle.geometry.specs.declared.Geometry.{Geometry}
 use Rattle.geometry.specs.Geometry.{partsOf, userUnitsOf}
 use Rattle.design.specs.Design.{groupAt, names, Laid}
+use Rattle.numbering.specs.Positions.{parityPosition}
+use Rattle.numbering.specs.Numbering.{userTuple, userRow, userColumn}
+use Rattle.numbering.specs.Ranges.{OuterIn, InnerIn}
 use Rattle.cells.specs.declared.Cell.{Cell}
 use Rattle.cells.specs.declared.Role.{Role}
-use Rattle.cells.specs.Cells.{cell, diagonalOf, parityPosition}
+use Rattle.cells.specs.Cells.{cell, diagonalOf}
 use Rattle.cells.specs.Sets.{InOuter, InInner}
-use Rattle.cells.specs.Roles.{userTuple, userRow, userColumn, userCell, userOuter, user, outer, inner, cellOf}
-use Rattle.cells.specs.Ranges.{CellIn, RoleIn, OuterIn, InnerIn}
+use Rattle.cells.specs.Roles.{userCell, userOuter, user, outer, inner, cellOf}
+use Rattle.cells.specs.Ranges.{CellIn, RoleIn}
 use Rattle.layout.specs.declared.Place.{Place}
 use Rattle.layout.specs.declared.Four.{Four}
 use Rattle.layout.specs.Regions.{region, regionOf}

@@ -115,7 +115,7 @@ pub fn four_of(geometry: Geometry, design: &[u16], n: UserUnit) -> Four
     requires { ⌜ n .0 < userUnitsOf geometry ⌝ }
     ensures { λ r. ⌜ r ≡ fourOf geometry (now (design .entry)) (n .0) ⌝ }
 {
-    let digits = cells::digits_of(geometry, n);
+    let digits = numbering::digits_of(geometry, n);
     let of_data = pair_of(geometry, design, cells::data_cell(geometry, digits));
     let of_outer = pair_of(geometry, design, cells::parity_cell(geometry, digits));
     let user = of_data.own;

@@ -12,7 +12,7 @@ use Rattle.counting.proofs.Bools.{bool-either, bool-not-both, and-both, both-an
 use Rattle.geometry.specs.declared.Geometry.{Geometry}
 use Rattle.geometry.specs.Geometry.{unitsOf, bytesOf}
 use Rattle.design.specs.Design.{Laid}
-use Rattle.cells.proofs.Numbering.{digits-only}
+use Rattle.numbering.proofs.Numbering.{digits-only}
 use Rattle.layout.specs.Places.{place}
 use Rattle.array.specs.Array.{startOf}
 use Rattle.leaves.proofs.Xor.{xor-swap, xor-assoc, xor-cancel}

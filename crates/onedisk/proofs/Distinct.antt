@@ -13,9 +13,10 @@ use Rattle.geometry.specs.declared.Geometry.{Geometry}
 use Rattle.geometry.specs.Geometry.{tuplesOf, disksOf, unitsOf}
 use Rattle.design.specs.Design.{groupAt, Laid}
 use Rattle.design.proofs.Rows.{row-once}
+use Rattle.region.specs.Columns.{labelColumn, diagonalColumn}
 use Rattle.cells.specs.declared.Cell.{Cell}
-use Rattle.cells.specs.Cells.{labelColumn, diagonalColumn, labelOf, diagonalOf}
-use Rattle.cells.proofs.Turns.{diagonalAt-lt, diagonal-once}
+use Rattle.cells.specs.Cells.{labelOf, diagonalOf}
+use Rattle.region.proofs.Turns.{diagonalAt-lt, diagonal-once}
 use Rattle.cells.proofs.Sets.{diagonal-column}
 use Rattle.layout.specs.declared.Place.{Place}
 use Rattle.layout.specs.Places.{place, placeOf, cellAt}

@@ -13,12 +13,13 @@ use Rattle.geometry.specs.declared.Geometry.{Geometry}
 use Rattle.geometry.specs.Geometry.{tuplesOf, disksOf, unitsOf}
 use Rattle.design.specs.Design.{groupAt, InRow, Laid}
 use Rattle.design.proofs.Rows.{row-once}
+use Rattle.region.specs.Columns.{labelColumn, labelAt}
 use Rattle.cells.specs.declared.Cell.{Cell}
-use Rattle.cells.specs.Cells.{cell, labelColumn, labelAt, labelOf}
+use Rattle.cells.specs.Cells.{cell, labelOf}
 use Rattle.cells.specs.Sets.{outerMember}
 use Rattle.cells.specs.Ranges.{CellIn}
-use Rattle.cells.proofs.Turns.{labelColumn-lt, labelAt-lt, column-of-label}
-use Rattle.cells.proofs.Meets.{two-labels-meet-once}
+use Rattle.region.proofs.Turns.{labelColumn-lt, labelAt-lt, column-of-label}
+use Rattle.region.proofs.Meets.{two-labels-meet-once}
 use Rattle.layout.specs.Places.{placeOf, cellAt}
 use Rattle.layout.proofs.Theorems.{cells-are-places}
 use Rattle.sources.specs.Plan.{planOf}

@@ -13,11 +13,12 @@ use Rattle.counting.proofs.Bools.{and-both, both-and}
 use Rattle.geometry.specs.declared.Geometry.{Geometry}
 use Rattle.geometry.specs.Geometry.{partsOf, disksOf, unitsOf}
 use Rattle.design.specs.Design.{groupAt, Laid}
+use Rattle.region.specs.Columns.{diagonalColumn}
 use Rattle.cells.specs.declared.Cell.{Cell}
-use Rattle.cells.specs.Cells.{diagonalColumn, diagonalOf}
+use Rattle.cells.specs.Cells.{diagonalOf}
 use Rattle.cells.specs.Sets.{innerMember}
 use Rattle.cells.specs.Ranges.{CellIn}
-use Rattle.cells.proofs.Turns.{diagonalColumn-lt, diagonalAt-lt, diagonal-once}
+use Rattle.region.proofs.Turns.{diagonalColumn-lt, diagonalAt-lt, diagonal-once}
 use Rattle.cells.proofs.Sets.{diagonal-column}
 use Rattle.layout.specs.Regions.{partOf}
 use Rattle.layout.specs.Places.{placeOf, cellAt}

@@ -7,7 +7,7 @@ use Rattle.design.specs.Design.{groupAt, names}
 use Rattle.checking.specs.Rules.{rowBad, rowsWith, pairBad, designRules}
 use Rattle.sizes.specs.Sizes.{sizesRules}
 use Rattle.held.specs.Held.{setFor, shifted, heldGroup, heldDesign, fillRules}
-use Rattle.cells.specs.Cells.{labelColumn, labelAt, diagonalColumn, diagonalAt}
+use Rattle.region.specs.Columns.{labelColumn, labelAt, diagonalColumn, diagonalAt}
 use Rattle.layout.specs.Regions.{partOf, tupleOf, positionOf}
 use Rattle.layout.specs.Places.{placeOf, cellAt}
 use Rattle.sources.specs.Plan.{listsOf, unitPlan, planBelow, planOf}

@@ -18,7 +18,7 @@ use Rattle.cells.specs.declared.Cell.{Cell}
 use Rattle.cells.specs.Cells.{labelOf, diagonalOf}
 use Rattle.cells.specs.Sets.{outerMember, innerMember}
 use Rattle.cells.specs.Ranges.{CellIn}
-use Rattle.cells.proofs.Turns.{labelAt-lt, diagonalAt-lt}
+use Rattle.region.proofs.Turns.{labelAt-lt, diagonalAt-lt}
 use Rattle.cells.proofs.Sets.{outer-member-in, inner-member-in}
 use Rattle.layout.specs.Places.{cellAt}
 use Rattle.layout.proofs.Places.{place-in, cell-at-in}

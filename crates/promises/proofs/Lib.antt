@@ -2,6 +2,8 @@ pub mod Settled
 pub mod Geometry
 pub mod Leaves
 pub mod Runs
+pub mod Region
+pub mod Numbering
 pub mod Cells
 pub mod Layouts
 pub mod Array

@@ -7,11 +7,12 @@ use mir.Syntax.{w32}
 use mir.Val.{Fits}
 use Rattle.geometry.specs.declared.Geometry.{Geometry}
 use Rattle.geometry.specs.Geometry.{Sound}
+use Rattle.region.specs.Columns.{labelColumn, diagonalColumn}
 use Rattle.cells.specs.declared.Cell.{Cell}
-use Rattle.cells.specs.Cells.{labelColumn, diagonalColumn, labelOf, diagonalOf}
+use Rattle.cells.specs.Cells.{labelOf, diagonalOf}
 use Rattle.cells.specs.Ranges.{CellIn}
 use Rattle.cells.specs.Sets.{outerMember, innerMember}
-use Rattle.cells.proofs.Turns.{labelColumn-lt, diagonalColumn-lt}
+use Rattle.region.proofs.Turns.{labelColumn-lt, diagonalColumn-lt}
 use Rattle.peeling.specs.Peeling.{Side}
 use Rattle.reaching.specs.declared.Set.{Set}
 use Rattle.reaching.specs.Reach.{tupleCellsOf, numberOf, outerSide, innerSide}

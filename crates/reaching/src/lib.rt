@@ -48,7 +48,7 @@ fn outer_set(geometry: Geometry, at: Cell) -> Set
         own: at.position,
         base: at.row * g,
         step: g * g,
-        column: cells::label_at(g, at.position, at.row, at.column),
+        column: region::label_at(g, at.position, at.row, at.column),
         turn: at.row,
         g,
     }
@@ -66,7 +66,7 @@ fn inner_set(geometry: Geometry, at: Cell) -> Set
         own: at.row,
         base: at.position * (g * g),
         step: g,
-        column: g - cells::diagonal_at(g, at.row, at.column),
+        column: g - region::diagonal_at(g, at.row, at.column),
         turn: 1,
         g,
     }

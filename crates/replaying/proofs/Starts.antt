@@ -14,7 +14,7 @@ use Rattle.cells.specs.declared.Cell.{Cell}
 use Rattle.cells.specs.Cells.{labelOf, diagonalOf}
 use Rattle.cells.specs.Sets.{outerMember, innerMember}
 use Rattle.cells.specs.Ranges.{CellIn}
-use Rattle.cells.proofs.Turns.{labelColumn-lt, diagonalColumn-lt}
+use Rattle.region.proofs.Turns.{labelColumn-lt, diagonalColumn-lt}
 use Rattle.array.specs.Array.{cellStart}
 use Rattle.consistent.specs.Consistent.{outerStarts, innerStarts}
 use Rattle.consistent.proofs.Numbers.{outer-length, inner-length, cells-inside, cells-spread}

@@ -25,7 +25,7 @@ fn replay_outer(geometry: Geometry, disk: usize, regions: &[usize], at: Cell, ar
     let k = geometry.k as usize;
     let mut room = [0usize; 10];
     let starts = &mut room[..k];
-    let label = cells::label_at(geometry.g, at.position, at.row, at.column);
+    let label = region::label_at(geometry.g, at.position, at.row, at.column);
     sets::label_starts(geometry, disk, regions, at.row, label, starts);
     restoring::restore_run(array, starts, at.position as usize, geometry.u as usize);
 }
@@ -40,7 +40,7 @@ fn replay_inner(geometry: Geometry, disk: usize, regions: &[usize], at: Cell, ar
     let position = at.position as usize;
     let mut room = [0usize; 13];
     let starts = &mut room[..g];
-    let diagonal = cells::diagonal_at(geometry.g, at.row, at.column);
+    let diagonal = region::diagonal_at(geometry.g, at.row, at.column);
     sets::diagonal_starts(geometry, disk, regions[position], diagonal, starts);
     restoring::restore_run(array, starts, at.row as usize, geometry.u as usize);
 }

@@ -7,8 +7,9 @@ use native.Mathlib.Omega.{arith}
 use lib.ListN.{getD, length, set}
 use Rattle.geometry.specs.declared.Geometry.{Geometry}
 use Rattle.geometry.specs.Geometry.{Sound}
-use Rattle.cells.specs.Cells.{cell, labelColumn, diagonalColumn}
-use Rattle.cells.proofs.Turns.{labelColumn-lt, diagonalColumn-lt}
+use Rattle.region.specs.Columns.{labelColumn, diagonalColumn}
+use Rattle.cells.specs.Cells.{cell}
+use Rattle.region.proofs.Turns.{labelColumn-lt, diagonalColumn-lt}
 use Rattle.leaves.proofs.Filled.{Filled, filled-none, filled-more, filled-all}
 use Rattle.array.specs.Array.{cellStart}
 use Rattle.sets.specs.Starts.{regionStarts, unitFrom, labelStarts, diagonalStarts}

@@ -11,10 +11,11 @@ use Rattle.geometry.specs.declared.Geometry.{Geometry}
 use Rattle.geometry.specs.Geometry.{Sound, tuplesOf, unitsOf, bytesOf}
 use Rattle.geometry.proofs.Laws.{units-bound, bytes-bound}
 use Rattle.design.specs.Design.{Laid}
-use Rattle.cells.specs.Cells.{cell, labelColumn, diagonalColumn}
+use Rattle.region.specs.Columns.{labelColumn, diagonalColumn}
+use Rattle.cells.specs.Cells.{cell}
 use Rattle.cells.specs.Sets.{outerMember, innerMember}
 use Rattle.cells.specs.Ranges.{CellIn}
-use Rattle.cells.proofs.Turns.{labelColumn-lt, diagonalColumn-lt}
+use Rattle.region.proofs.Turns.{labelColumn-lt, diagonalColumn-lt}
 use Rattle.layout.specs.Places.{placeOf}
 use Rattle.leaves.specs.Bytes.{Inside}
 use Rattle.array.specs.Array.{startOf, cellStart}

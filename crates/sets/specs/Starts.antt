@@ -7,7 +7,8 @@ use lib.ListN.{getD, length}
 use Rattle.counting.specs.Lists.{listOf}
 use Rattle.geometry.specs.declared.Geometry.{Geometry}
 use Rattle.geometry.specs.Geometry.{unitsOf, bytesOf}
-use Rattle.cells.specs.Cells.{cell, labelColumn, diagonalColumn}
+use Rattle.region.specs.Columns.{labelColumn, diagonalColumn}
+use Rattle.cells.specs.Cells.{cell}
 use Rattle.array.specs.Array.{cellStart}
 
 -- where the regions of tuple t begin, by position: each at its row 0, column 0

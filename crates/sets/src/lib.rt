@@ -107,7 +107,7 @@ pub fn diagonal_starts(
     requires { ⌜ (diagonal < geometry .g) × (length (now starts) ≡ geometry .g) ⌝ }
     ensures { λ _. ⌜ now (starts .exit) ≡ diagonalStarts geometry start diagonal ⌝ }
 {
-    let mut x = cells::column_of_diagonal(geometry.g, diagonal, 0);
+    let mut x = region::column_of_diagonal(geometry.g, diagonal, 0);
     let mut i: u32 = 0;
     while i < geometry.g {
         let at = i as usize;

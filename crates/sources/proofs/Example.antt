@@ -1,6 +1,6 @@
 -- 01's example of the plan is computed. Assumes nothing.
 use mathlib.Core.Path.{refl}
-use Rattle.cells.specs.Cells.{labelColumn, labelAt, diagonalColumn, diagonalAt}
+use Rattle.region.specs.Columns.{labelColumn, labelAt, diagonalColumn, diagonalAt}
 use Rattle.design.specs.Design.{groupAt, names}
 use Rattle.geometry.specs.Geometry.{rOf, bOf, unitsOf, tuplesOf}
 use Rattle.counting.specs.Counting.{countBelow, lowest}

@@ -10,8 +10,9 @@ use lib.Dec.{ltb}
 use Rattle.geometry.specs.declared.Geometry.{Geometry}
 use Rattle.geometry.specs.Geometry.{partsOf, disksOf, unitsOf}
 use Rattle.design.specs.Design.{Laid}
+use Rattle.region.specs.Columns.{labelColumn, diagonalColumn}
 use Rattle.cells.specs.declared.Cell.{Cell}
-use Rattle.cells.specs.Cells.{cell, labelColumn, labelOf, diagonalColumn, diagonalOf}
+use Rattle.cells.specs.Cells.{cell, labelOf, diagonalOf}
 use Rattle.cells.specs.Ranges.{CellIn}
 use Rattle.layout.specs.declared.Region.{Region}
 use Rattle.layout.specs.Regions.{regionOf}

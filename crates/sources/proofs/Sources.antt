@@ -8,9 +8,10 @@ use native.Mathlib.Omega.{arith}
 use borrow.Author.Tests.{eq-eqb, ne-eqb, lt-ltb, le-ltb}
 use lib.ListN.{length, set}
 use Rattle.geometry.specs.declared.Geometry.{Geometry}
+use Rattle.region.specs.Columns.{labelColumn, diagonalColumn}
 use Rattle.cells.specs.declared.Cell.{Cell}
 use Rattle.cells.specs.Ranges.{CellIn}
-use Rattle.cells.specs.Cells.{cell, labelColumn, diagonalColumn, labelOf, diagonalOf}
+use Rattle.cells.specs.Cells.{cell, labelOf, diagonalOf}
 use Rattle.layout.specs.declared.Place.{Place}
 use Rattle.layout.specs.declared.Region.{Region}
 use Rattle.layout.specs.Places.{inRegion}

@@ -8,8 +8,9 @@ use lib.Dec.{ltb, eqb}
 use lib.ListN.{length, getD}
 use lib.Seq.{sets}
 use Rattle.geometry.specs.declared.Geometry.{Geometry}
+use Rattle.region.specs.Columns.{labelColumn, diagonalColumn}
 use Rattle.cells.specs.declared.Cell.{Cell}
-use Rattle.cells.specs.Cells.{cell, labelColumn, diagonalColumn, labelOf, diagonalOf}
+use Rattle.cells.specs.Cells.{cell, labelOf, diagonalOf}
 use Rattle.layout.specs.declared.Place.{Place}
 use Rattle.layout.specs.declared.Region.{Region}
 use Rattle.layout.specs.Regions.{region, regionOf}

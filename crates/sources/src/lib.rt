@@ -11,7 +11,7 @@ ghost use Prim.Native.Nat.{_+_, _≤_, _<_};
 ghost use mathlib.Core.Path.{_≡_};
 ghost use lib.ListN.{length};
 ghost use Rattle.geometry.specs.Geometry.{Sound};
-ghost use Rattle.cells.specs.Cells.{labelColumn, diagonalColumn};
+ghost use Rattle.region.specs.Columns.{labelColumn, diagonalColumn};
 ghost use Rattle.cells.specs.Ranges.{CellIn};
 ghost use Rattle.layout.specs.Places.{inRegion};
 ghost use Rattle.layout.specs.Ranges.{SmallRegion};
@@ -50,7 +50,7 @@ fn outer_source(
         group: Group(groups[at]),
         part: Part(parts[at]),
     };
-    let x = cells::column_of_label(geometry.g, position, row, column);
+    let x = region::column_of_label(geometry.g, position, row, column);
     layout::place_in(geometry, region, row, x)
 }
 
@@ -60,7 +60,7 @@ fn inner_source(geometry: Geometry, region: Region, row: u32, diagonal: u32) -> 
     requires { ⌜ (row < geometry .g) × (diagonal < geometry .g) ⌝ }
     ensures { λ r. ⌜ r ≡ inRegion geometry region row (diagonalColumn (geometry .g) diagonal row) ⌝ }
 {
-    let x = cells::column_of_diagonal(geometry.g, diagonal, row);
+    let x = region::column_of_diagonal(geometry.g, diagonal, row);
     layout::place_in(geometry, region, row, x)
 }
 
@@ -78,7 +78,7 @@ fn plan_outer(
     requires { ⌜ start + length (listsOf (outerTriple geometry (inHand (now groups) (now parts)) (unit .0) at) (geometry .k)) ≤ length (now list) ⌝ }
     ensures { λ r. ⌜ Written (now (list .entry)) start (listsOf (outerTriple geometry (inHand (now (groups .entry)) (now (parts .entry))) (unit .0) at) (geometry .k)) (now (list .exit)) r ⌝ }
 {
-    let column = cells::label_at(geometry.g, at.position, at.row, at.column);
+    let column = region::label_at(geometry.g, at.position, at.row, at.column);
     let mut next = start;
     let mut e: u32 = 0;
     while e < geometry.k {
@@ -102,7 +102,7 @@ fn plan_inner(
     requires { ⌜ start + length (listsOf (innerTriple geometry region (unit .0) at) (geometry .g)) ≤ length (now list) ⌝ }
     ensures { λ r. ⌜ Written (now (list .entry)) start (listsOf (innerTriple geometry region (unit .0) at) (geometry .g)) (now (list .exit)) r ⌝ }
 {
-    let diagonal = cells::diagonal_at(geometry.g, at.row, at.column);
+    let diagonal = region::diagonal_at(geometry.g, at.row, at.column);
     let mut next = start;
     let mut i: u32 = 0;
     while i < geometry.g {

@@ -1,7 +1,7 @@
 -- `cells::user_cell` meets its contract. Assumes nothing.
 use mathlib.Core.Path.{ap, _∙_}
 use Rattle.cells.specs.Roles.{userCell}
-use Rattle.cells.specs.declared.Digits.{Digits}
+use Rattle.numbering.specs.declared.Digits.{Digits}
 use Rattle.cells.specs.Roles.{dataCell}
 use borrow.Author.Needs.{needs}
 use Rattle.cells.proofs.user_cell.Statement.{statement}

@@ -1,7 +1,7 @@
 -- `cells::user_outer` meets its contract. Assumes nothing.
 use mathlib.Core.Path.{ap, _∙_}
 use Rattle.cells.specs.Roles.{userOuter}
-use Rattle.cells.specs.declared.Digits.{Digits}
+use Rattle.numbering.specs.declared.Digits.{Digits}
 use Rattle.cells.specs.Roles.{parityCell}
 use borrow.Author.Needs.{needs}
 use Rattle.cells.proofs.user_outer.Statement.{statement}

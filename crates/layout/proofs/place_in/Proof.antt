@@ -1,6 +1,6 @@
 -- `layout::place_in` meets its contract. Assumes nothing.
 use native.Mathlib.Omega.{arith}
-use Rattle.cells.proofs.Steps.{product-fits, digit-fits}
+use Rattle.geometry.proofs.Fits.{product-fits, digit-fits}
 use borrow.Author.Needs.{needs}
 use Rattle.layout.proofs.place_in.Statement.{statement}
 use Rattle.layout.proofs.place_in.Tie as tie

@@ -1,6 +1,6 @@
 -- `reaching::outer_set` meets its contract. Assumes nothing.
 use Rattle.reaching.proofs.Members.{outer-is, outer-set-in}
-use Rattle.cells.proofs.Steps.{product-fits}
+use Rattle.geometry.proofs.Fits.{product-fits}
 use native.Mathlib.Omega.{arith}
 use borrow.Author.Needs.{needs}
 use Rattle.reaching.proofs.outer_set.Statement.{statement}

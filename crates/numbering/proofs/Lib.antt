@@ -1,0 +1,5 @@
+pub mod Positions
+pub mod Numbering
+pub mod SetNumbers
+pub mod Steps
+pub mod Theorems

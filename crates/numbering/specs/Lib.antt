@@ -1,0 +1,4 @@
+pub mod Positions
+pub mod Numbering
+pub mod Ranges
+pub mod Theorems

@@ -1,0 +1,4 @@
+pub mod Turns
+pub mod Meets
+pub mod Examples
+pub mod Theorems
