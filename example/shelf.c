@@ -32,11 +32,12 @@ int main(void) {
         return 1;
     }
     size_t bytes = (size_t)sizes.bytes, disks = sizes.disks;
-    uint8_t *array = malloc(bytes), *marks = calloc(disks, 1);
+    uint8_t *array = (uint8_t *)malloc(bytes), *marks = (uint8_t *)calloc(disks, 1); /* with casts, so that it is C++ too */
     if (array == NULL || marks == NULL) {
         return 1;
     }
-    printf("%" PRIu32 " disks of %" PRIu32 " units, %" PRIu32 " user units, %" PRIu64 " bytes\n", sizes.disks, sizes.units, sizes.user_units, sizes.bytes);
+    printf("%" PRIu32 " disks of %" PRIu32 " units, %" PRIu32 " user units, %" PRIu64 " bytes\n", sizes.disks, sizes.units,
+           sizes.user_units, sizes.bytes);
 
     tell("format", himzolven_format(V, K, G, U, design, DESIGN, array, bytes, marks, disks));
     audit(array, bytes);
