@@ -9,7 +9,7 @@ from pathlib import Path
 ROOT = Path(__file__).resolve().parent.parent
 HERE = ROOT / "witness"
 WORK = ROOT / "target/witness"
-ARCHIVE = ROOT / "target/staticlib/libhost.a"
+ARCHIVE = ROOT / "target/lib/libhimzolven.a"
 FLAGS = ["-std=c11", "-O2", "-Wall", "-Wextra", "-Wpedantic", "-Wconversion", "-Werror", "-no-pie", "-fno-pie"]
 # the four units of a write, in the order and by the names of witness.c
 UNITS = ["data unit", "outer parity", "inner parity of the data", "inner parity of the outer parity"]
@@ -43,7 +43,7 @@ def options(about):
         chosen[words[0]] = Path(words[1])
         words = words[2:]
     if not chosen["--archive"].is_file():
-        stop(f"there is no {chosen['--archive']}; `rt staticlib host` makes the shipped one")
+        stop(f"there is no {chosen['--archive']}; `scripts/library` makes the shipped one")
     return chosen["--archive"], chosen["--include"]
 
 

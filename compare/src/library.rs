@@ -63,7 +63,7 @@ pub struct CountAnswer {
     pub count: u32,
 }
 
-#[link(name = "host", kind = "static")]
+#[link(name = "himzolven", kind = "static")]
 extern "C" {
     fn himzolven_fill(v: u32, design: *mut u16, length: usize) -> Answer;
     fn himzolven_check(v: u32, k: u32, design: *const u16, length: usize) -> Answer;
