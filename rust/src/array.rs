@@ -4,14 +4,15 @@ use crate::geometry::Geometry;
 use crate::lent;
 use crate::numbers::{Disk, SetNumber, UserUnit, length};
 use crate::refusal::Refusal;
+use std::fmt;
 
-/// An array: all disks and their marks, lent for as long as this is in use. Nothing is kept besides: each call tests the
-/// geometry, the design, both lengths and all marks anew, and so the fields are open.
+/// An array: all disks and their marks, lent for as long as this is in use. Nothing is kept besides: each call tests anew all
+/// that it is lent, and so the fields are open.
 ///
 /// ```
 /// use himzolven::{Array, Design, Disk, Geometry, Refusal, Tuple};
 ///
-/// let design = Design::new(7, 3, &[0, 2, 6, 0, 1, 3, 1, 2, 4, 2, 3, 5, 3, 4, 6, 0, 4, 5, 1, 5, 6])?;
+/// let design = Design::held(7)?;
 /// let geometry = Geometry { design: &design, g: 3, u: 16 };
 /// let sizes = geometry.sizes()?;
 /// let (mut bytes, mut marks) = (vec![0; sizes.bytes], vec![0; sizes.marks]);
@@ -20,7 +21,7 @@ use crate::refusal::Refusal;
 /// [0, 1, 2, 3].into_iter().try_for_each(|disk| array.mark(Disk(disk)))?;
 /// assert_eq!(array.rebuild()?, 36);
 /// [0, 1, 3, 4].into_iter().try_for_each(|disk| array.mark(Disk(disk)))?;
-/// assert_eq!(array.rebuild(), Err(Refusal::Incomplete { tuple: Tuple(1) }));
+/// assert_eq!(array.rebuild(), Err(Refusal::Incomplete { tuple: Tuple(0) }));
 /// assert_eq!(array.marks[..5], [1, 1, 0, 1, 1]); // a refused call changes nothing
 /// assert_eq!(array.mark(Disk(21)), Err(Refusal::DiskTooHigh));
 /// # Ok::<(), Refusal>(())
@@ -33,11 +34,10 @@ use crate::refusal::Refusal;
 /// # let design = Design::held(7)?;
 /// # let geometry = Geometry { design: &design, g: 3, u: 16 };
 /// # let (mut bytes, mut marks) = (vec![0; 3024], vec![0; 21]);
-/// # let array = Array { geometry, bytes: &mut bytes, marks: &mut marks };
+/// # let mut array = Array { geometry, bytes: &mut bytes, marks: &mut marks };
 /// array.read(UserUnit(0), 0, &mut array.bytes[..16])?;
 /// # Ok::<(), himzolven::Refusal>(())
 /// ```
-#[derive(Debug)]
 pub struct Array<'a> {
     /// The sizes and the layout.
     pub geometry: Geometry<'a>,
@@ -45,6 +45,18 @@ pub struct Array<'a> {
     pub bytes: &'a mut [u8],
     /// A byte a disk, 0 present and 1 lost: [`Sizes::marks`](crate::Sizes::marks) bytes.
     pub marks: &'a mut [u8],
+}
+
+/// The lengths of the lists, not what they hold.
+impl fmt::Debug for Array<'_> {
+    fn fmt(&self, f: &mut fmt::Formatter) -> fmt::Result {
+        let Array { geometry, bytes, marks } = self;
+        f.debug_struct("Array")
+            .field("geometry", geometry)
+            .field("bytes", &bytes.len())
+            .field("marks", &marks.len())
+            .finish()
+    }
 }
 
 impl Array<'_> {
@@ -70,8 +82,8 @@ impl Array<'_> {
         Ok(Audit { bad: answer.bad, lowest: (answer.bad > 0).then_some(SetNumber(answer.lowest)) })
     }
 
-    /// Marks a disk as lost, for a rebuild. This is the crate's own, no call of the library; only a rebuild or a format takes
-    /// the mark away. [`Refusal::DiskTooHigh`] where the marks have no such disk.
+    /// Marks a disk as lost; a rebuild or a format takes the mark away. This is the crate's own and no call of the library.
+    /// [`Refusal::DiskTooHigh`] where the marks have no such disk.
     pub fn mark(&mut self, disk: Disk) -> Result<(), Refusal> {
         let mark = self.marks.get_mut(length(disk.0.into())).ok_or(Refusal::DiskTooHigh)?;
         *mark = 1;

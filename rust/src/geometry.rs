@@ -76,10 +76,10 @@ impl Geometry<'_> {
     /// ```
     /// use himzolven::{Design, Disk, Geometry, Role, Tuple, Unit, UserUnit};
     ///
-    /// let design = Design::new(7, 3, &[0, 2, 6, 0, 1, 3, 1, 2, 4, 2, 3, 5, 3, 4, 6, 0, 4, 5, 1, 5, 6])?;
+    /// let design = Design::held(7)?;
     /// let geometry = Geometry { design: &design, g: 3, u: 512 };
     /// assert_eq!(geometry.role(Disk(1), Unit(1))?, Role::User(UserUnit(4)));
-    /// assert_eq!(geometry.role(Disk(18), Unit(1))?, Role::Outer { tuple: Tuple(0), row: 1, column: 1 });
+    /// assert_eq!(geometry.role(Disk(9), Unit(1))?, Role::Outer { tuple: Tuple(0), row: 1, column: 1 });
     /// assert_eq!(geometry.role(Disk(2), Unit(2))?, Role::Inner { tuple: Tuple(0), position: 0, diagonal: 0 });
     /// # Ok::<(), himzolven::Refusal>(())
     /// ```

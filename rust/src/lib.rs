@@ -27,8 +27,8 @@
 //! ```
 //!
 //! # Building
-//! `scripts/library` makes the library. The crate takes it from the directory named by `HIMZOLVEN_LIB_DIR`, or from
-//! `target/lib` of this repository.
+//! `scripts/library` makes the library, for machines with 64-bit addresses. The crate takes it from the directory that
+//! `HIMZOLVEN_LIB_DIR` names, seen from the crate, or from `target/lib` of this repository.
 //!
 //! # What holds
 //! - What the library's functions answer is proved, for every input (`docs/REVIEW.md`). This crate is not proved: its tests
@@ -36,7 +36,8 @@
 //! - A refused call changes no lent byte. [`Refusal`] has the number and the place of the rules.
 //! - Disk, group, tuple, unit, user unit and set numbers have a type each. No number is cut on its way: each crosses in the
 //!   type that the header gives it.
-//! - No call has state of its own, blocks or allocates, but for the list of [`Design::held`].
+//! - No call has state of its own or blocks, and none but [`Design::held`] allocates. Reads and audits share an [`Array`], so
+//!   several threads may make them at once.
 //! - A [`Design`] is checked when it is made, and each call checks it again, since the library trusts nothing.
 //! - Every `unsafe` call stands in one module, beside the reason why it is sound.
 

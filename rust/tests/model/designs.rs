@@ -6,10 +6,8 @@ use crate::tally::Tally;
 use compare::model::Model;
 use himzolven::Design;
 
-/// The refusals of the two calls.
-pub const CALLS: [(&str, &[u32]); 2] = [("held", &[1]), ("new", &[2, 3, 4, 5])];
-
-const HELD: [u32; 7] = [7, 13, 21, 31, 57, 73, 91];
+/// The two calls with their refusals.
+pub const REFUSALS: [(&str, &[u32]); 2] = [("held", &[1]), ("new", &[2, 3, 4, 5])];
 
 /// Document 000's equation 1, and the lines of a plane of nine points.
 const F: [u16; 21] = [0, 2, 6, 0, 1, 3, 1, 2, 4, 2, 3, 5, 3, 4, 6, 0, 4, 5, 1, 5, 6];
@@ -31,7 +29,7 @@ pub fn pool() -> Vec<Design<'static>> {
     let mut pool = vec![design(7, 3, F.to_vec()), design(9, 3, PLANE.concat())];
     pool.extend((2..=8).map(complete));
     pool.extend((3..=10).map(single));
-    pool.extend(HELD.map(|v| Design::held(v).expect("v is held")));
+    pool.extend((0..=91).filter_map(|v| Design::held(v).ok()));
     pool
 }
 
@@ -54,7 +52,7 @@ pub fn check(pool: &[Design], random: &mut Random, model: &mut Model, tally: &mu
     if ours != theirs {
         return Err(format!("v = {v}, k = {k}, {list:?}: {ours:?}, independently {theirs:?}"));
     }
-    tally.add("new", ours.err().map_or(0, |(number, _)| number));
+    tally.add("new", &ours);
     Ok(())
 }
 
@@ -67,6 +65,6 @@ pub fn held(v: u32, model: &mut Model, tally: &mut Tally) -> Result<(), String> 
     if ours != theirs {
         return Err(format!("the held design of {v}: {ours:?}, independently {theirs:?}"));
     }
-    tally.add("held", ours.err().map_or(0, |(number, _)| number));
+    tally.add("held", &ours);
     Ok(())
 }

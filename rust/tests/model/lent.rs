@@ -1,6 +1,6 @@
 //! Lists lent to the library and to the independent program, each with words before and behind it that must stay.
 
-const REDZONE: usize = 16;
+pub const REDZONE: usize = 16;
 
 /// Two equal lists.
 pub struct Twice<W> {

@@ -43,7 +43,7 @@ fn random_calls_answer_as_the_independent_program() {
         calls(seed, &pool, &mut Model::new(Plant::NONE), &mut tally)
             .unwrap_or_else(|difference| panic!("{difference}"));
         tally.print();
-        tally.expect(&[&designs::CALLS[..], &sequence::CALLS[..]].concat());
+        tally.expect(designs::REFUSALS.into_iter().chain(sequence::refusals()));
     }
 }
 
@@ -52,10 +52,10 @@ fn random_calls_answer_as_the_independent_program() {
 const HIDDEN: [Fault; 4] =
     [Fault::FillLongerList, Fault::FillStoresOnRefusal, Fault::SixBeforeFive, Fault::SevenNoLimit];
 
-/// Whether the calls of some seed find the fault: an answer or a byte differs, or the faulty program breaks down.
-fn found(fault: Fault, pool: &[Design]) -> bool {
-    (1..=20).any(|seed| {
-        let mut model = Model::new(Plant::of(fault));
+/// Whether the calls of some seed find what is planted: an answer or a byte differs, or the faulty program breaks down.
+fn found(plant: Plant, pool: &[Design]) -> bool {
+    (1..=4).any(|seed| {
+        let mut model = Model::new(plant);
         let compared = catch_unwind(AssertUnwindSafe(|| calls(seed, pool, &mut model, &mut Tally::default())));
         !matches!(compared, Ok(Ok(())))
     })
@@ -66,7 +66,8 @@ fn a_fault_planted_in_the_independent_program_is_found() {
     let pool = designs::pool();
     let faults = [Fault::MAPPING, Fault::ARRAY, Fault::PLAN, Fault::REBUILD].concat();
     let planted: Vec<Fault> = faults.into_iter().filter(|fault| !HIDDEN.contains(fault)).collect();
-    let missed: Vec<&Fault> = planted.iter().filter(|fault| !found(**fault, &pool)).collect();
-    assert_eq!(missed, [&Fault::FiftyOne; 0]);
+    assert!(!found(Plant::NONE, &pool), "without a fault there is a difference");
+    let missed: Vec<&Fault> = planted.iter().filter(|fault| !found(Plant::of(**fault), &pool)).collect();
+    assert!(missed.is_empty(), "not found: {missed:?}");
     println!("{} planted faults, each found", planted.len());
 }

@@ -1,24 +1,45 @@
 //! Random sequences of calls on one array, accepted and refused ones mixed.
 
-use crate::lent::Twice;
+use crate::lent::{REDZONE, Twice};
 use crate::random::Random;
 use crate::step::{Call, Shelf, Step};
 use crate::tally::Tally;
 use compare::model::Model;
 use himzolven::{Design, Geometry, Sizes, UserUnit};
 
-/// The calls with the refusals that they are spoiled for: all that apply to them, and 2 to 5 were the design's.
-pub const CALLS: [(&str, &[u32]); 9] = [
-    ("sizes", &[6]),
-    ("map", &[6, 10]),
-    ("role", &[6, 9]),
-    ("plan", &[6, 9, 14]),
-    ("format", &[6, 7, 8]),
-    ("read", &[6, 7, 8, 10, 11, 12]),
-    ("write", &[6, 7, 8, 10, 11, 12]),
-    ("audit", &[6, 7]),
-    ("rebuild", &[6, 7, 8, 13]),
+/// A call's name, the refusals that it is spoiled for (2 to 5 are the design's), and the call with numbers that it accepts.
+type Kind = (&'static str, &'static [u32], fn(Valid) -> Call);
+
+const KINDS: [Kind; 9] = [
+    ("sizes", &[6], |_| Call::Sizes),
+    ("map", &[6, 10], |valid| Call::Map { user: valid.user }),
+    ("role", &[6, 9], |valid| Call::Role { disk: valid.disk, unit: valid.unit }),
+    ("plan", &[6, 9, 14], |valid| Call::Plan { disk: valid.disk, length: valid.list }),
+    ("format", &[6, 7, 8], |_| Call::Format),
+    ("read", &[6, 7, 8, 10, 11, 12], |Valid { user, offset, bytes, .. }| Call::Read {
+        user,
+        offset,
+        length: bytes.len(),
+    }),
+    ("write", &[6, 7, 8, 10, 11, 12], |Valid { user, offset, bytes, .. }| Call::Write { user, offset, bytes }),
+    ("audit", &[6, 7], |_| Call::Audit),
+    ("rebuild", &[6, 7, 8, 13], |_| Call::Rebuild),
 ];
+
+/// The calls with their refusals.
+pub fn refusals() -> impl Iterator<Item = (&'static str, &'static [u32])> {
+    KINDS.into_iter().map(|(name, refusals, _)| (name, refusals))
+}
+
+/// Numbers that calls accept.
+struct Valid {
+    user: u32,
+    disk: u32,
+    unit: u32,
+    offset: u64,
+    bytes: Vec<u8>,
+    list: usize,
+}
 
 /// One array of a design with what is lent besides it.
 pub struct Sequence<'a> {
@@ -41,78 +62,69 @@ impl<'a> Sequence<'a> {
         let shelf = Shelf {
             array: Twice::of(&random.bytes(sizes.bytes), 0xA5),
             marks: Twice::of(&vec![0; sizes.marks], 1),
-            bytes: Twice::of(&random.bytes(4096), 0x5A),
-            list: Twice::of(&vec![7; sizes.plan + 5], 9),
+            bytes: Twice::of(&random.bytes(most), 0x5A),
+            list: Twice::of(&vec![7; sizes.plan], 9),
         };
         Sequence { geometry, sizes, shelf, random }
     }
 
     /// Makes some steps with both; the first difference is an error.
     pub fn run(&mut self, steps: usize, model: &mut Model, tally: &mut Tally) -> Result<(), String> {
+        let design = self.geometry.design;
         for _ in 0..steps {
-            let kind = self.random.below(CALLS.len());
-            let step = self.drawn(kind);
-            let ours = step.ours(self.geometry.design, &mut self.shelf);
-            let theirs = step.theirs(self.geometry.design, &mut self.shelf, model);
-            if ours != theirs || !self.shelf.alike() {
-                let (v, k) = (self.geometry.design.v(), self.geometry.design.k());
-                return Err(format!("v = {v}, k = {k}, {step:?}: {ours:?}, independently {theirs:?}, or other bytes"));
+            let (name, refusals, call) = self.random.pick(&KINDS);
+            let step = self.drawn(refusals, call);
+            let (ours, theirs) = (step.ours(design, &mut self.shelf), step.theirs(design, &mut self.shelf, model));
+            let unlike = self.shelf.unlike();
+            if ours != theirs || !unlike.is_empty() {
+                let asked = format!("v = {}, k = {}, {step:?}", design.v(), design.k());
+                return Err(format!("{asked}: {ours:?}, independently {theirs:?}; lists that differ: {unlike:?}"));
             }
-            tally.add(CALLS[kind].0, ours.err().map_or(0, |(number, _)| number));
+            tally.add(name, &ours);
         }
         Ok(())
     }
 
     /// A step that is accepted if no disk in its way is lost; or one that is spoiled for one refusal, or for two.
-    fn drawn(&mut self, kind: usize) -> Step {
-        self.losses(CALLS[kind].0 == "rebuild");
+    fn drawn(&mut self, refusals: &[u32], call: fn(Valid) -> Call) -> Step {
+        self.losses();
         let Geometry { g, u, .. } = self.geometry;
-        let call = self.call(CALLS[kind].0);
-        let mut step = Step { g, u, array: self.sizes.bytes, marks: self.sizes.marks, call };
+        let mut step = Step { g, u, array: self.sizes.bytes, marks: self.sizes.marks, call: call(self.valid()) };
         for _ in 0..self.random.pick(&[0, 0, 0, 1, 1, 2]) {
-            let number = self.random.pick(CALLS[kind].1);
+            let number = self.random.pick(refusals);
             self.spoil(&mut step, number);
         }
         step
     }
 
-    /// The marks before a step: none or some; before a rebuild some disks hold other bytes.
-    fn losses(&mut self, rebuild: bool) {
-        let count = self.random.pick(&[0, 0, 1, 2, 3, 3, 4]);
-        let lost: Vec<usize> = (0..count).map(|_| self.random.below(self.sizes.marks)).collect();
+    /// The marks before a step: of no disk, or of some, which then hold noise.
+    fn losses(&mut self) {
         self.shelf.marks.change(|marks| marks.fill(0));
         let length = self.sizes.bytes / self.sizes.marks;
-        for disk in lost {
+        for _ in 0..self.random.pick(&[0, 0, 1, 2, 3, 3, 4]) {
+            let (disk, noise) = (self.random.below(self.sizes.marks), self.random.bytes(length));
             self.shelf.marks.change(|marks| marks[disk] = 1);
-            let noise = if rebuild { self.random.bytes(length) } else { vec![] };
-            self.shelf.array.change(|array| array[disk * length..][..noise.len()].copy_from_slice(&noise));
+            self.shelf.array.change(|array| array[disk * length..][..length].copy_from_slice(&noise));
         }
     }
 
-    fn call(&mut self, name: &str) -> Call {
-        let random = &mut self.random;
-        let user = random.below(self.sizes.user_units as usize) as u32;
-        let (disk, unit) = (random.below(self.sizes.marks) as u32, random.below(self.sizes.units as usize) as u32);
-        let start = random.below(self.geometry.u as usize + 1);
-        let length = random.below(self.geometry.u as usize - start + 1);
-        match name {
-            "sizes" => Call::Sizes,
-            "map" => Call::Map { user },
-            "role" => Call::Role { disk, unit },
-            "plan" => Call::Plan { disk, length: self.sizes.plan + random.below(5) },
-            "format" => Call::Format,
-            "read" => Call::Read { user, offset: start as u64, length },
-            "write" => Call::Write { user, offset: start as u64, bytes: random.bytes(length) },
-            "audit" => Call::Audit,
-            "rebuild" => Call::Rebuild,
-            _ => unreachable!("{name} is no call"),
+    fn valid(&mut self) -> Valid {
+        let (random, sizes, u) = (&mut self.random, &self.sizes, self.geometry.u as usize);
+        let offset = random.below(u + 1);
+        let length = random.below(u - offset + 1);
+        Valid {
+            user: random.below(sizes.user_units as usize) as u32,
+            disk: random.below(sizes.marks) as u32,
+            unit: random.below(sizes.units as usize) as u32,
+            offset: offset as u64,
+            bytes: random.bytes(length),
+            list: sizes.plan + random.below(REDZONE),
         }
     }
 
-    /// Spoils a step so that this refusal applies.
+    /// Spoils a step so that this refusal applies, or so that a number is close to it.
     fn spoil(&mut self, step: &mut Step, number: u32) {
         let (random, sizes) = (&mut self.random, &self.sizes);
-        let some_disk = random.below(sizes.marks);
         match (number, &mut step.call) {
             (6, _) if random.one_in(2) => step.u = random.pick(&[0, 4097, u32::MAX]),
             (6, _) => step.g = random.pick(&[0, 1, 2, 3, 4, 5, 9, 14, 17, u32::MAX]),
@@ -120,8 +132,8 @@ impl<'a> Sequence<'a> {
             (7, _) if random.one_in(2) => step.array = other(sizes.bytes, random),
             (7, _) => step.marks = other(sizes.marks, random),
             (8, _) => {
-                let mark = 2 + random.below(254) as u8;
-                self.shelf.marks.change(|marks| (marks[some_disk], marks[some_disk / 2]) = (mark, mark));
+                let (disk, mark) = (random.below(sizes.marks), 2 + random.below(254) as u8);
+                self.shelf.marks.change(|marks| (marks[disk], marks[disk / 2]) = (mark, mark));
             }
             (9, Call::Role { unit, .. }) if random.one_in(2) => *unit = random.beyond(sizes.units),
             (9, Call::Role { disk, .. } | Call::Plan { disk, .. }) => *disk = random.beyond(sizes.disks),
@@ -139,7 +151,7 @@ impl<'a> Sequence<'a> {
         }
     }
 
-    /// Marks the data disk of a user unit or others of its four disks, from one on.
+    /// Marks the disks of a user unit's four places, or of the last ones of them.
     fn mark_four(&mut self, user: u32) {
         let Ok(four) = self.geometry.map(UserUnit(user)) else { return };
         let first = self.random.below(4);
@@ -156,16 +168,17 @@ impl<'a> Sequence<'a> {
     }
 }
 
-/// The sizes of the design with the most bytes, which 32 bits don't hold.
-pub fn largest_sizes(design: &Design, model: &mut Model) -> Result<(), String> {
-    let (bytes, none) = (|| Twice::of(&[], 0), Twice::of(&[], 0));
-    let mut shelf = Shelf { array: bytes(), marks: bytes(), bytes: bytes(), list: none };
-    let step = Step { g: 13, u: 4096, array: 0, marks: 0, call: Call::Sizes };
-    let (ours, theirs) = (step.ours(design, &mut shelf), step.theirs(design, &mut shelf, model));
-    if ours == theirs { Ok(()) } else { Err(format!("{step:?}: {ours:?}, independently {theirs:?}")) }
+/// Another length than the right one.
+fn other(right: usize, random: &mut Random) -> usize {
+    random.pick(&[0, right - 1, right / 2, right + 1, right + REDZONE])
 }
 
-/// Another length than the right one, with at most as many words more as are there.
-fn other(right: usize, random: &mut Random) -> usize {
-    random.pick(&[0, right - 1, right / 2, right + 1, right + 16])
+/// The sizes of the geometry with the most bytes, which 32 bits don't hold.
+pub fn largest_sizes(all_pairs_of_91: &Design, model: &mut Model) -> Result<(), String> {
+    let bytes = || Twice::of(&[], 0);
+    let mut shelf = Shelf { array: bytes(), marks: bytes(), bytes: bytes(), list: Twice::of(&[], 0) };
+    let step = Step { g: 13, u: 4096, array: 0, marks: 0, call: Call::Sizes };
+    let ours = step.ours(all_pairs_of_91, &mut shelf);
+    let theirs = step.theirs(all_pairs_of_91, &mut shelf, model);
+    if ours == theirs { Ok(()) } else { Err(format!("{step:?}: {ours:?}, independently {theirs:?}")) }
 }

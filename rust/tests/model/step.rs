@@ -36,8 +36,16 @@ pub struct Shelf {
 }
 
 impl Shelf {
-    pub fn alike(&self) -> bool {
-        self.array.alike() && self.marks.alike() && self.bytes.alike() && self.list.alike()
+    /// The lists, by name, that differ between the two.
+    pub fn unlike(&self) -> Vec<&'static str> {
+        let Shelf { array, marks, bytes, list } = self;
+        let alike = [array.alike(), marks.alike(), bytes.alike(), list.alike()];
+        ["array", "marks", "bytes", "list"]
+            .into_iter()
+            .zip(alike)
+            .filter(|(_, alike)| !alike)
+            .map(|(name, _)| name)
+            .collect()
     }
 }
 
@@ -114,7 +122,7 @@ fn our_sizes(sizes: himzolven::Sizes) -> Vec<u64> {
     [wide([parts, tuples, disks, units, user_units, sets]), lengths.to_vec()].concat()
 }
 
-/// The independent program's marks are as many as its disks, and its plan's numbers are counted in the plan of disk 0.
+/// The independent program's marks are as many as its disks; its plan's numbers are counted in the plan of disk 0.
 fn their_sizes(sizes: model::Sizes, at: &model::Geometry, model: &mut Model) -> Result<Vec<u64>, model::Refusal> {
     let model::Sizes { parts, tuples, disks, units, user_units, sets, bytes } = sizes;
     let plan = 3 * model.plan(at, 0, &mut [0; 10_000])?;
