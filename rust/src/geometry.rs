@@ -93,9 +93,6 @@ impl Geometry<'_> {
     /// geometry.role(Unit(1), Disk(1))?;
     /// # Ok::<(), himzolven::Refusal>(())
     /// ```
-    ///
-    /// # Panics
-    /// On a kind of unit that the header does not have: then another library is linked than the one this crate is held to.
     pub fn role(&self, disk: Disk, unit: Unit) -> Result<Role, Refusal> {
         let sys::RoleAnswer { kind, a, b, c, .. } = lent::role(self, disk, unit)?;
         Ok(match kind {

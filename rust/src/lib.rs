@@ -38,6 +38,8 @@
 //!   type that the header gives it.
 //! - No call has state of its own or blocks, and none but [`Design::held`] allocates. Reads and audits share an [`Array`], so
 //!   several threads may make them at once.
+//! - A number of a refusal or of a role that the header does not have would mean that another library is linked: then the call
+//!   panics and says so.
 //! - A [`Design`] is checked when it is made, and each call checks it again, since the library trusts nothing.
 //! - Every `unsafe` call stands in one module, beside the reason why it is sound.
 

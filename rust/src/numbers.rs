@@ -37,7 +37,7 @@ numbers! {
 const _: () = assert!(usize::BITS == 64, "himzolven: the library is made for machines with 64-bit addresses");
 
 /// A count of the library as a length. The assertion above is why no bit is cut.
-#[allow(clippy::as_conversions, clippy::cast_possible_truncation)]
+#[allow(clippy::as_conversions)]
 pub(crate) fn length(count: u64) -> usize {
     count as usize
 }

@@ -71,9 +71,6 @@ pub enum Refusal {
 
 impl Refusal {
     /// What an answer's number and place say. v is that of the call.
-    ///
-    /// # Panics
-    /// On a number that the header does not have: then another library is linked than the one this crate is held to.
     pub(crate) fn told(number: u32, place: u32, v: u32) -> Result<(), Refusal> {
         Err(match number {
             sys::ACCEPTED => return Ok(()),

@@ -9,8 +9,10 @@ use himzolven::Design;
 /// The two calls with their refusals.
 pub const REFUSALS: [(&str, &[u32]); 2] = [("held", &[1]), ("new", &[2, 3, 4, 5])];
 
-/// Document 000's equation 1, and the lines of a plane of nine points.
-const F: [u16; 21] = [0, 2, 6, 0, 1, 3, 1, 2, 4, 2, 3, 5, 3, 4, 6, 0, 4, 5, 1, 5, 6];
+/// Document 000's equation 1.
+pub const F: [u16; 21] = [0, 2, 6, 0, 1, 3, 1, 2, 4, 2, 3, 5, 3, 4, 6, 0, 4, 5, 1, 5, 6];
+
+/// The lines of a plane of nine points.
 const PLANE: [[u16; 18]; 2] =
     [[0, 1, 2, 3, 4, 5, 6, 7, 8, 0, 3, 6, 1, 4, 7, 2, 5, 8], [0, 4, 8, 1, 5, 6, 2, 3, 7, 0, 5, 7, 1, 3, 8, 2, 4, 6]];
 

@@ -1,7 +1,8 @@
 //! Random calls through the safe functions and of the independent program (`compare/src/model.rs`): answers and every lent byte
-//! are compared. HIMZOLVEN_SEED takes a seed; otherwise 1 and a fresh one are taken.
+//! are compared. HIMZOLVEN_SEED takes a seed; otherwise 1 and a fresh one are taken. Besides, the examples of document 01.
 
 mod designs;
+mod examples;
 mod lent;
 mod random;
 mod sequence;
