@@ -32,6 +32,7 @@ void fail(const char *format, ...) {
     vfprintf(stderr, format, words);
     va_end(words);
     fprintf(stderr, "\n");
+    fflush(stdout);
     _exit(1);
 }
 

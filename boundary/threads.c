@@ -17,6 +17,7 @@ struct work {
     uint64_t seed;
     unsigned common; /* lists that the other thread is lent, too: none of them may change */
     struct lent lent;
+    const struct lent *last; /* the highest numbers that are not refused */
     pthread_barrier_t *start;
     uint64_t *traces;
     size_t accepted;
@@ -33,17 +34,19 @@ static uint64_t mixed(uint64_t sum, const void *from, size_t bytes) {
     return sum;
 }
 
-/* The next call and its numbers: most are accepted; marks are set now and then, and rebuilt. */
+/* The next call and its numbers, some of them one too high; marks are set now and then, and rebuilt. */
 static enum call choose(struct work *w, uint64_t *state) {
     uint64_t drawn = next_number(state);
     enum call call = (enum call)(drawn % CALLS);
     if ((shapes[call].changes & w->common) != 0) call = AUDIT;
     struct lent *l = &w->lent;
-    l->user_unit = (uint32_t)(drawn >> 8) % 85, l->disk = (uint32_t)(drawn >> 16) % 22, l->unit = (uint32_t)(drawn >> 24) % 10;
-    l->offset = (drawn >> 32) % 12;
+    l->user_unit = (uint32_t)(drawn >> 8) % (w->last->user_unit + 2);
+    l->disk = (uint32_t)(drawn >> 16) % (w->last->disk + 2);
+    l->unit = (uint32_t)(drawn >> 24) % (w->last->unit + 2);
+    l->offset = (drawn >> 32) % (w->last->offset + 2);
     uint8_t *bytes = l->parts[BYTES].at;
     for (size_t i = 0; i < l->parts[BYTES].length; i++) bytes[i] = (uint8_t)(drawn >> i % 56);
-    if ((w->common >> MARKS & 1) == 0 && drawn >> 58 == 0) ((uint8_t *)l->parts[MARKS].at)[l->disk % 21] ^= 1;
+    if ((w->common >> MARKS & 1) == 0 && drawn >> 58 == 0) ((uint8_t *)l->parts[MARKS].at)[l->disk % l->parts[MARKS].length] ^= 1;
     return call;
 }
 
@@ -62,7 +65,7 @@ static void *work(void *given) {
 }
 
 static struct work prepared(unsigned common, const struct lent *first, size_t number, pthread_barrier_t *start) {
-    struct work w = {.seed = number + 1, .common = common, .lent = copied(first), .start = start};
+    struct work w = {.seed = number + 1, .common = common, .lent = copied(first), .last = first, .start = start};
     w.traces = calloc(TURNS, sizeof *w.traces);
     if (w.traces == NULL) abort();
     return w;

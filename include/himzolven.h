@@ -1,8 +1,11 @@
 /* Himzolven: the OI-RAID layout (RAID5 across groups of disks and RAID5 inside each group), proved.
  *
- * Link with libhimzolven.a: `cc prog.c $(pkg-config --cflags --libs himzolven)` after `scripts/install`, or `cc -Iinclude prog.c
- * target/lib/libhimzolven.a` after `scripts/library`. The Rattle source of every function here is proved to answer as
- * docs/REVIEW.md states it, for every input. The compiler's back end, this header and the archive are tested, not proved.
+ * Link with libhimzolven.a:
+ *     cc prog.c $(pkg-config --cflags --libs himzolven)          after scripts/install
+ *     cc -Iinclude prog.c target/lib/libhimzolven.a              after scripts/library
+ *
+ * The Rattle source of every function here is proved to answer as docs/REVIEW.md states it, for every input. The compiler's back
+ * end, this header and the archive are tested, not proved.
  *
  * A design is a list of 16-bit group numbers, row after row, of b*k numbers. v groups, k groups in a row (a "tuple"), g disks in
  * a group, u bytes in a unit. Disk d is in group d/g, column d%g. Unit = part*g + row.
