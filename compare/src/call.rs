@@ -61,14 +61,16 @@ pub enum Reply {
 }
 
 impl Reply {
-    pub fn refusal(&self) -> u32 {
-        match self {
-            Reply::Fill(answer, _) | Reply::Check(answer) => answer.refusal,
-            Reply::Sizes(answer) => answer.refusal,
-            Reply::Map(answer) => answer.refusal,
-            Reply::Role(answer) => answer.refusal,
-            Reply::Plan(answer, _) => answer.refusal,
-        }
+    /// Refusal and place, which every answer begins with.
+    pub fn answer(&self) -> Answer {
+        let (refusal, place) = match self {
+            Reply::Fill(answer, _) | Reply::Check(answer) => (answer.refusal, answer.place),
+            Reply::Sizes(answer) => (answer.refusal, answer.place),
+            Reply::Map(answer) => (answer.refusal, answer.place),
+            Reply::Role(answer) => (answer.refusal, answer.place),
+            Reply::Plan(answer, _) => (answer.refusal, answer.place),
+        };
+        Answer { refusal, place }
     }
 }
 

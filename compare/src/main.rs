@@ -3,6 +3,7 @@
 mod call;
 mod faults;
 mod figure4;
+mod fuzz;
 mod generator;
 mod given;
 mod hostile;
@@ -30,6 +31,8 @@ const USAGE: &str = "usage: compare compare [--seed N] [--calls N]   random call
                                                  disks lost and rebuilt: every loss of up to five disks of design F,
                                                  then random losses; one array alone
                                                  `compare losses --seed N --from N --count 1`
+       compare fuzz [--seed N] [--count N]       raw strings of bytes, decoded to calls of all kinds; mutations of a corpus
+       compare fuzz-faults [--seed N]            planted faults, each to be found by raw strings
        compare printed PRINTER [--seed N]        the plan printer, run on lines of every kind
        compare units                             every unit and user unit of many arrays
        compare figure4 FILE                      document 000's figure 4, from a data file
@@ -65,6 +68,10 @@ fn asked(words: &[&str]) -> Option<Result<(), String>> {
             .map(|[seed, from, count]| sequences::run(seed, from, count)),
         ["losses", rest @ ..] => options(rest, [seed, ("--from", 0), ("--count", losses::COUNT)])
             .map(|[seed, from, count]| losses::run(seed, from, count)),
+        ["fuzz-faults", rest @ ..] => options(rest, [seed]).map(|[seed]| fuzz::faults(seed)),
+        ["fuzz", rest @ ..] => {
+            options(rest, [seed, ("--count", fuzz::COUNT)]).map(|[seed, count]| fuzz::run(seed, count))
+        }
         ["faults", rest @ ..] => options(rest, [seed]).map(|[seed]| faults::run(seed)),
         ["printed", printer, rest @ ..] => options(rest, [seed]).map(|[seed]| printed::run(printer, seed)),
         ["units"] => Some(units::run()),

@@ -24,7 +24,7 @@ pub fn run(seed: u64, calls: usize) -> Result<(), String> {
     let mut tally = Tally::of(Kind::ALL.map(|kind| (kind.name(), kind.refusals())));
     for (number, call) in Generator::new(seed, &pool::all()).take(calls).enumerate() {
         let reply = both(&call, &mut model).map_err(|fault| format!("call {number}: {fault}"))?;
-        tally.add(call.kind as usize, reply.refusal());
+        tally.add(call.kind as usize, reply.answer().refusal);
     }
     tally.print();
     println!("{} calls, {} accepted, no difference", tally.calls(), tally.accepted());

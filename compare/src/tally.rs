@@ -59,10 +59,15 @@ impl Tally {
         if self.accepted() * 2 < self.calls() {
             return Err("fewer than half of the calls were accepted".into());
         }
+        self.each(LEAST)
+    }
+
+    /// Each call was accepted, and refused by each of its numbers, often enough.
+    pub fn each(&self, least: u64) -> Result<(), String> {
         for line in &self.0 {
-            for number in line.refusals {
-                if line.counts[*number as usize] < LEAST {
-                    return Err(format!("{} gave refusal {number} fewer than {LEAST} times", line.name));
+            for number in [&0].into_iter().chain(line.refusals) {
+                if line.counts[*number as usize] < least {
+                    return Err(format!("{} gave refusal {number} (0: none) fewer than {least} times", line.name));
                 }
             }
         }

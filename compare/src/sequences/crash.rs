@@ -9,10 +9,16 @@ pub enum At {
     Limit,
     DesignF,
     Losses,
+    Fuzz,
 }
 
-const NAMES: [&str; 4] =
-    ["sequence", "the arrays near the limit,", "the losses of design F, of a list of", "the losses of array"];
+const NAMES: [&str; 5] = [
+    "sequence",
+    "the arrays near the limit,",
+    "the losses of design F, of a list of",
+    "the losses of array",
+    "the raw strings of seed",
+];
 
 /// What the run is doing, the number of the sequence or array, and that of the call.
 static WHERE: [AtomicU64; 3] = [const { AtomicU64::new(0) }; 3];
