@@ -4,6 +4,7 @@
 #include <string.h>
 
 #include "cases.h"
+#include "cut.h"
 #include "rooms.h"
 #include "threads.h"
 
@@ -124,7 +125,8 @@ static void alignment(void) {
 static const struct {
     const char *name;
     void (*run)(void);
-} tests[] = {{"guards", guards}, {"refused", refused}, {"empty", empty}, {"alignment", alignment}, {"threads", threads}};
+} tests[] = {{"guards", guards}, {"refused", refused}, {"empty", empty}, {"alignment", alignment}, {"threads", threads},
+             {"cut", cut}};
 
 int main(int argc, char **argv) {
     size_t ran = 0;
@@ -134,7 +136,7 @@ int main(int argc, char **argv) {
         tests[i].run(), ran++;
     }
     if (ran == 0 || argc > 2) {
-        fprintf(stderr, "usage: boundary [guards|refused|empty|alignment|threads]\n");
+        fprintf(stderr, "usage: boundary [guards|refused|empty|alignment|threads|cut]\n");
         return 2;
     }
     return 0;

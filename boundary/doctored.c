@@ -21,6 +21,7 @@ enum fault {
     OTHER_NUMBER,   /* a write that leaves the unit is refused as one to a user unit too high */
     KEPT,           /* map keeps the user unit for all threads */
     LONGER_PLAN,    /* plan stores a number behind its triples */
+    ONE_LEFT,       /* rebuild restores all lost disks but the last */
 };
 
 static enum fault planted;
@@ -75,6 +76,9 @@ himzolven_audit_answer __wrap_himzolven_audit(SHELF, const uint8_t *array, size_
 himzolven_count_answer __real_himzolven_rebuild(SHELF, uint8_t *, size_t, uint8_t *, size_t);
 himzolven_count_answer __wrap_himzolven_rebuild(SHELF, uint8_t *array, size_t array_length, uint8_t *marks, size_t marks_length) {
     if (planted == ROUNDED) marks -= (uintptr_t)marks % 8;
+    size_t last = marks_length;
+    while (planted == ONE_LEFT && last > 0 && marks[--last] == 0) {}
+    if (planted == ONE_LEFT && last < marks_length) marks[last] = 0;
     himzolven_count_answer told = __real_himzolven_rebuild(GIVEN, array, array_length, marks, marks_length);
     if (planted == REFUSED_CHANGE && told.refusal == HIMZOLVEN_INCOMPLETE) marks[0] = 0;
     return told;
