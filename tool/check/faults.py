@@ -1,0 +1,35 @@
+"""Faults that are planted in a copy of the tool, each with the test that must find it."""
+import commands
+import contents
+import cutoffs
+import images
+
+# the file, what stands there once, what takes its place, the test
+FAULTS = [
+    ("transfer.c", "at % opened->geometry.u, room", "at % opened->geometry.u / 2 * 2, room", contents.sessions),
+    ("transfer.c", "*done += code == EXIT_DONE ? next.length : 0;", "*done += next.length;", contents.sessions),
+    ("transfer.c", "int code = try_stream(opened, TO_STORE, at, length);", "int code = EXIT_DONE;", contents.sessions),
+    ("transfer.c", "if (answer.refusal != HIMZOLVEN_ACCEPTED) {\n        return refused(opened, to, answer);",
+     "if (answer.refusal > HIMZOLVEN_SHORT_LIST) {\n        return refused(opened, to, answer);", commands.call_refusals),
+    ("disks.c", "memcpy(opened->state.marks, marks, sizeof marks);", "", contents.sessions),
+    ("disks.c", "bytes[i] = noise(&seed);", "bytes[i] = (uint8_t)(bytes[i] & seed);", contents.sessions),
+    ("disks.c", "|| force", "|| true || force", commands.call_refusals),
+    ("words.c", "a = place / of->v, b = place % of->v", "b = place / of->v, a = place % of->v", commands.design_refusals),
+    ("words.c", "disk == at.outer_disk ?", "disk == at.inner_disk ?", commands.call_refusals),
+    ("help.c", "examples:\\n\"\n    \"  himzolven read", "\\n\"\n    \"  himzolven read", commands.helps),
+    ("options.c", "value > UINT32_MAX / unit", "value * unit / unit != value", commands.wrong_lines),
+    ("image.c", "crc32_of(opened->map, HEADER_CRC_AT) != get32", "crc32_of(opened->map, 32) == get32", images.wrong_images),
+    ("image.c", "opened->sizes.bytes != image_array_bytes(opened)", "opened->sizes.bytes > image_array_bytes(opened)", images.wrong_images),
+    ("image.c", "copy.sequence > opened->state.sequence", "copy.sequence < opened->state.sequence", images.one_copy),
+    ("image.c", "access == TO_STORE ? LOCK_EX : LOCK_SH", "LOCK_SH", images.locks),
+    ("create.c", "if (!force) {", "if (!force && !S_ISREG(is.st_mode)) {", images.creation),
+    ("create.c", "    unlink(new);\n", "", images.creation),
+    ("work.c", "    stopped = 1;", "    _exit(7);", images.interrupted),
+    ("cutoff.c", "size_t kept = 0; kept < PLACES", "size_t kept = 1; kept < PLACES", cutoffs.torn_writes),
+    ("cutoff.c", "if (i != kept) {", "if (i != kept && i != 3) {", cutoffs.torn_writes),
+    ("cutoff.c", "code == EXIT_DONE && opened->state.under_way.call", "code != EXIT_DONE && opened->state.under_way.call", cutoffs.torn_writes),
+    ("cutoff.c", "size_t kept = 0; kept < PLACES", "size_t kept = 0; kept < 1", cutoffs.torn_and_lost),
+    ("cutoff.c", "memcpy(chosen, marks, MARKS_MAX);\n    for", "memset(chosen, 0, MARKS_MAX);\n    for", cutoffs.torn_and_lost),
+    ("disks.c", "choose_marks(opened, marks, chosen, &answer)", "try_rebuild(opened, memcpy(chosen, marks, MARKS_MAX), &answer)",
+     cutoffs.lost_after_the_cut),
+]

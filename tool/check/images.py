@@ -1,0 +1,142 @@
+"""Files that are no image, locks, and how an image comes into being."""
+import fcntl
+import random
+import signal
+import struct
+import time
+
+from desk import ARRAY, DONE, HEADER, HELD_BACK, IMAGE, IN_USE, INTERRUPTED, STATE, WRITE, State, expect, header_of, with_states
+
+LOOKS = [["status"], ["read", "--unit", 0], ["plan", 0], ["audit"]]
+STORES = [["write", "--unit", 0], ["fail", 0], ["rebuild"], ["recover"]]
+
+
+def on(words, path):
+    return [words[0], path, *words[1:]]
+
+
+def say_no(desk, path, what, commands):
+    before = path.read_bytes() if path.is_file() else None
+    for words in commands:
+        desk.run(*on(words, path), given=b"x", code=IMAGE)
+        expect(before is None or path.read_bytes() == before, f"{what}: {words[0]} changes it")
+
+
+def damaged(image):
+    """Files that are no image, each with its name."""
+    flips = random.Random(1)
+    v, k, g, u, numbers = struct.unpack("<5I", image[12:32])
+    design = struct.unpack(f"<{numbers}H", image[4096 : 4096 + 2 * numbers])
+    rest = image[HEADER:]
+    expect(header_of(v, k, g, u, design) == image[:HEADER], "the header is not as IMAGE.md says")
+    yield "an empty file", b""
+    yield "a short file", image[:10]
+    yield "header and state alone", image[:ARRAY]
+    yield "an image without its last byte", image[:-1]
+    yield "an image with a byte more", image + b"\0"
+    for at in [0, 7, 8, 12, 16, 20, 24, 28, 100, 4096, HEADER - 1, *(flips.randrange(HEADER) for _ in range(8))]:
+        yield f"byte {at} of the header changed", image[:at] + bytes([image[at] ^ 1 << flips.randrange(8)]) + image[at + 1 :]
+    yield "another version", header_of(v, k, g, u, design, version=2) + rest
+    yield "a unit of 5000 bytes", header_of(v, k, g, 5000, design) + rest
+    yield "another design", header_of(v, k, g, u, design[:-1] + (design[-1] ^ 1,)) + rest
+    yield "a design that is too long", header_of(v, k, g, u, [0] * 8190)[:28] + struct.pack("<I", 9000) + image[32:]
+    state = State.of(image)
+    state.call = 3
+    yield "a call that is not there", with_states(image, state)
+    state.call, state.unit = WRITE, 84
+    yield "a record of a user unit that is not there", with_states(image, state)
+    both = bytearray(image)
+    both[HEADER + 70] ^= 1
+    both[HEADER + STATE + 70] ^= 1
+    yield "both copies of the state changed", bytes(both)
+
+
+def wrong_images(desk):
+    good = desk.create("good.img", 7, 3, 16).read_bytes()
+    path = desk.path("bad.img")
+    for turn, (what, image) in enumerate(damaged(good)):
+        path.write_bytes(image)
+        say_no(desk, path, what, [LOOKS[turn % 4], STORES[turn // 4 % 4]])
+    say_no(desk, path, "both copies of the state changed", LOOKS + STORES)
+    path.unlink()
+    say_no(desk, path, "no file", LOOKS + STORES)
+    path.mkdir()
+    say_no(desk, path, "a directory", LOOKS + STORES)
+    path.rmdir()
+
+
+def one_copy(desk):
+    """One copy of the state is damaged or older: the other counts, and the next commit mends both."""
+    path = desk.create("copy.img", 7, 3, 16)
+    desk.run("fail", path, 5)
+    image = path.read_bytes()
+    now, before = State.of(image), State.of(image).with_marks([])
+    before.sequence -= 1
+    spoiled = [bytearray(image), bytearray(image)]
+    spoiled[0][HEADER + 64] ^= 1
+    spoiled[1][HEADER + STATE + 4000] ^= 1
+    for what, other in [("first damaged", spoiled[0]), ("second damaged", spoiled[1]), ("first older", with_states(image, before, now)),
+                        ("second older", with_states(image, now, before))]:
+        path.write_bytes(other)
+        out, error = desk.run("status", path)
+        expect(b"lost     disk 5\n" in out, f"{what}: the state is not the newest whole one")
+        expect(("damaged" in what) == ("one copy of the state is damaged" in error), f"{what}: not said as it is")
+        desk.run("fail", path, 6)
+        stored = path.read_bytes()
+        expect(State.of(stored).marked() == State.of(stored, 1).marked() == [5, 6], f"{what}: not mended")
+
+
+def locks(desk):
+    path = desk.create("lock.img", 7, 3, 16)
+    before = path.read_bytes()
+    for lock, held_off in [(fcntl.LOCK_EX, LOOKS + STORES), (fcntl.LOCK_SH, STORES)]:
+        with open(path, "rb") as other:
+            fcntl.flock(other, lock)
+            for words in held_off:
+                expect("in use" in desk.run(*on(words, path), given=b"x", code=IN_USE)[1], f"{words[0]}: not said that the image is in use")
+            desk.run("create", path, "--groups", 7, "--disks-per-group", 3, "--force", code=IN_USE)
+            if lock == fcntl.LOCK_SH:
+                for words in LOOKS:
+                    desk.run(*on(words, path))
+    expect(path.read_bytes() == before, "a command changes an image that another process has")
+
+
+def creation(desk):
+    path = desk.create("new.img", 7, 3, 16)
+    desk.run("write", path, "--unit", 3, given=b"kept")
+    before = path.read_bytes()
+    desk.run("create", path, "--groups", 7, "--disks-per-group", 3, code=HELD_BACK)
+    expect(path.read_bytes() == before, "create changes an image that is there")
+    desk.create("new.img", 7, 5, 16, "--force")
+    expect(path.stat().st_size == ARRAY + 35 * 15 * 16 and not any(path.read_bytes()[ARRAY:]), "create --force makes no new image")
+    desk.path("folder").mkdir()
+    desk.run("create", desk.path("folder"), "--groups", 7, "--disks-per-group", 3, "--force", code=IMAGE)
+    desk.run("create", desk.path("folder/no/where.img"), "--groups", 7, "--disks-per-group", 3, code=IMAGE)
+    expect(not list(desk.directory.glob("*.new-*")), "create leaves its working file")
+
+
+def interrupted(desk):
+    """SIGINT in the middle of a stream: what was taken by whole chunks is written, nothing is cut off."""
+    path = desk.create("signal.img", 7, 3, 512)
+    tool = desk.start("write", path, "--at", 0, stdin=-1, stdout=-1, stderr=-1)
+    tool.stdin.write(b"a" * (64 * 512 + 100))  # a chunk, and the beginning of another
+    tool.stdin.flush()
+    for _ in range(500):
+        if desk_has(path, b"a" * 100, 64) or tool.poll() is not None:
+            break
+        time.sleep(0.01)
+    tool.send_signal(signal.SIGINT)
+    error = tool.communicate(timeout=20)[1].decode()
+    expect(tool.returncode == INTERRUPTED and "32768 bytes were written before" in error, f"SIGINT: {tool.returncode}, {error}")
+    expect(desk.contents(path) == (b"a" * 64 * 512).ljust(84 * 512, b"\0"), "SIGINT: other bytes than those that were told")
+    expect(State.of(path.read_bytes()).call == 0, "SIGINT: a call is left under way")
+    desk.run("audit", path, code=DONE)
+
+
+def desk_has(path, run, times):
+    """The array holds the run at least so often, and no call is under way."""
+    image = path.read_bytes()
+    return image[ARRAY:].count(run) >= times and image[HEADER : HEADER + STATE] == image[HEADER + STATE : ARRAY] and State.of(image).call == 0
+
+
+CHECKS = [wrong_images, one_copy, locks, creation, interrupted]

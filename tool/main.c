@@ -1,0 +1,72 @@
+/* himzolven: keeps a disk array with the OI-RAID layout in one file. */
+#include <stdio.h>
+#include <string.h>
+
+#include "commands.h"
+#include "exits.h"
+#include "help.h"
+#include "image.h"
+#include "work.h"
+
+#ifndef HIMZOLVEN_VERSION
+#define HIMZOLVEN_VERSION "without a version in its header"
+#endif
+
+static const struct {
+    const char *name, *help;
+    int (*run)(char **words);
+} commands[] = {
+    {"create", help_create, run_create},       {"status", help_status, run_status},    {"write", help_write, run_write},
+    {"read", help_read, run_read},             {"fail", help_fail, run_fail},          {"plan", help_plan, run_plan},
+    {"rebuild", help_rebuild, run_rebuild},    {"recover", help_recover, run_recover}, {"audit", help_audit, run_audit},
+    {"refusals", help_refusals, run_refusals},
+};
+
+static int has_help(char **words) {
+    for (; *words != NULL; words++) {
+        if (strcmp(*words, "--help") == 0) {
+            return 1;
+        }
+    }
+    return 0;
+}
+
+static int dispatch(const char *name, char **words) {
+    for (size_t i = 0; i < sizeof commands / sizeof commands[0]; i++) {
+        if (strcmp(name, commands[i].name) == 0) {
+            if (has_help(words)) {
+                fputs(commands[i].help, stdout);
+                return EXIT_DONE;
+            }
+            return commands[i].run(words);
+        }
+    }
+    complain("there is no command '%s'; himzolven --help lists them", name);
+    return EXIT_USAGE;
+}
+
+static int run(int count, char **words) {
+    if (count < 2) {
+        fputs(help_all, stderr);
+        return EXIT_USAGE;
+    }
+    if (strcmp(words[1], "--help") == 0) {
+        fputs(help_all, stdout);
+        return EXIT_DONE;
+    }
+    if (strcmp(words[1], "--version") == 0) {
+        printf("himzolven: library %s, image version %d\n", HIMZOLVEN_VERSION, IMAGE_VERSION);
+        return EXIT_DONE;
+    }
+    return dispatch(words[1], words + 2);
+}
+
+int main(int count, char **words) {
+    work_signals();
+    int code = run(count, words);
+    if (fflush(stdout) != 0 || ferror(stdout)) {
+        complain("standard output can't be written");
+        return code == EXIT_DONE ? EXIT_IMAGE : code;
+    }
+    return code;
+}
