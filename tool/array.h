@@ -19,8 +19,8 @@ himzolven_count_answer array_rebuild(image *opened);
 himzolven_answer try_write(image *opened, uint32_t user_unit, uint64_t offset, uint64_t length);
 himzolven_answer try_read(const image *opened, uint32_t user_unit, uint64_t offset, uint64_t length);
 
-/* How a rebuild with these marks would be answered: the same call on units of one byte that are thrown away. Whether all comes back
- * is known from the marks alone. false: no memory. */
+/* How a rebuild with these marks would be answered: the same call on units of one byte that are thrown away. Whether all comes
+ * back is known from the marks alone. false: no memory. */
 bool try_rebuild(const image *opened, const uint8_t *marks, himzolven_count_answer *answer);
 
 #endif

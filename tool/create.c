@@ -22,6 +22,11 @@ static int failed(const char *path) {
     return EXIT_IMAGE;
 }
 
+static int exists(const char *path) {
+    complain("%s: exists already, and stays as it is; --force replaces it", path);
+    return EXIT_HELD_BACK;
+}
+
 /* The file that the new image takes the place of, locked, or -1 where there is none. */
 static int hold_old(const char *path, bool force, int *old) {
     struct stat is;
@@ -30,8 +35,7 @@ static int hold_old(const char *path, bool force, int *old) {
         return errno == ENOENT ? EXIT_DONE : failed(path);
     }
     if (!force) {
-        complain("%s: exists already, and stays as it is; --force replaces it", path);
-        return EXIT_HELD_BACK;
+        return exists(path);
     }
     if (!S_ISREG(is.st_mode)) {
         complain("%s: no regular file, and is not replaced", path);
@@ -41,6 +45,11 @@ static int hold_old(const char *path, bool force, int *old) {
     return *old < 0 ? failed(path) : image_lock(*old, path, TO_STORE);
 }
 
+static int interrupted(const char *path) {
+    complain("%s: stopped by a signal; nothing is created", path);
+    return EXIT_INTERRUPTED;
+}
+
 /* The library's answer first, by a read of no bytes; then room on the disk; only then the first store. */
 static int reserve(const image *created) {
     himzolven_answer answer = try_read(created, 0, 0, 0);
@@ -48,6 +57,9 @@ static int reserve(const image *created) {
         return tell_refusal(&created->geometry, &(question){0}, answer.refusal, answer.place);
     }
     errno = posix_fallocate(created->file, 0, (off_t)created->map_bytes);
+    if (errno == EINTR && work_stopped()) {
+        return interrupted(created->path);
+    }
     return errno != 0 ? failed(created->path) : EXIT_DONE;
 }
 
@@ -72,11 +84,10 @@ static int fill(image *created) {
 static int publish(const char *new, const char *path, bool force) {
     char directory[PATH_MAX];
     if (work_stopped()) {
-        complain("%s: stopped by a signal; nothing is created", path);
-        return EXIT_INTERRUPTED;
+        return interrupted(path);
     }
     if ((force ? rename(new, path) : link(new, path)) != 0) {
-        return failed(path);
+        return errno == EEXIST ? exists(path) : failed(path);
     }
     snprintf(directory, sizeof directory, "%s", path);
     int file = open(dirname(directory), O_RDONLY | O_DIRECTORY | O_CLOEXEC);
@@ -140,8 +151,9 @@ static int create_asked(const char *path, const option *options, image *created)
     }
     code = create(path, options[FORCE].given, created);
     if (code == EXIT_DONE) {
-        printf("%s: %" PRIu32 " disks of %" PRIu32 " units, %" PRIu64 " bytes for the user in %" PRIu32 " user units of %" PRIu32 "\n",
-               path, created->sizes.disks, created->sizes.units, image_user_bytes(created), created->sizes.user_units, of->u);
+        printf("%s: %" PRIu32 " disks of %" PRIu32 " units, ", path, created->sizes.disks, created->sizes.units);
+        printf("%" PRIu64 " bytes for the user in %" PRIu32 " user units of %" PRIu32 "\n", image_user_bytes(created),
+               created->sizes.user_units, of->u);
     }
     return code;
 }

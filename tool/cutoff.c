@@ -12,9 +12,10 @@ void print_cut_off(FILE *to, const image *opened) {
     const record *was = &opened->state.under_way;
     if (was->call == CALL_WRITE) {
         himzolven_map_answer at = ask_map(&opened->geometry, was->user_unit);
-        fprintf(to, "a write of %" PRIu32 " bytes from offset %" PRIu32 " of user unit %" PRIu32, was->length, was->offset, was->user_unit);
-        fprintf(to, " (disk %" PRIu32 ", parities on disks %" PRIu32 " %" PRIu32 " %" PRIu32 ") was cut off", at.data_disk, at.outer_disk,
-                at.inner_disk, at.both_disk);
+        fprintf(to, "a write of %" PRIu32 " bytes from offset %" PRIu32 " of user unit %" PRIu32, was->length, was->offset,
+                was->user_unit);
+        fprintf(to, " (disk %" PRIu32 ", parities on disks %" PRIu32 " %" PRIu32 " %" PRIu32 ") was cut off", at.data_disk,
+                at.outer_disk, at.inner_disk, at.both_disk);
     } else if (was->call == CALL_REBUILD) {
         fputs("a rebuild was cut off", to);
     }

@@ -60,7 +60,10 @@ static bool decode_state(state *to, const uint8_t *bytes) {
         return false;
     }
     to->sequence = get64(bytes + SEQUENCE_AT);
-    to->under_way = (record){get32(bytes + CALL_AT), get32(bytes + USER_UNIT_AT), get32(bytes + OFFSET_AT), get32(bytes + LENGTH_AT)};
+    to->under_way.call = get32(bytes + CALL_AT);
+    to->under_way.user_unit = get32(bytes + USER_UNIT_AT);
+    to->under_way.offset = get32(bytes + OFFSET_AT);
+    to->under_way.length = get32(bytes + LENGTH_AT);
     memcpy(to->marks, bytes + MARKS_AT, MARKS_MAX);
     return true;
 }

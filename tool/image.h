@@ -75,8 +75,8 @@ uint64_t image_user_bytes(const image *opened);
 /* Stores the header of a new image into its map. */
 void image_begin(const image *created);
 
-/* Stores the state, marks and record. Its first copy is on the disk when this returns; before the next commit, image_settle brings
- * the second one and the array there. So one copy is always whole. With `sync` off neither waits. */
+/* Stores the state, marks and record. Its first copy is on the disk when this returns; before the next commit, image_settle
+ * brings the second one and the array there. So one copy is always whole. With `sync` off neither waits. */
 int image_commit(image *opened);
 int image_settle(const image *opened);
 

@@ -26,9 +26,14 @@ static void print_lost(const image *opened) {
     printf("lost     ");
     print_marked(stdout, opened->state.marks, opened->sizes.disks);
     printf("\n");
-    if (choose_marks(opened, opened->state.marks, chosen, &answer) && answer.refusal != HIMZOLVEN_ACCEPTED) {
+    if (!choose_marks(opened, opened->state.marks, chosen, &answer)) {
+        return;
+    }
+    if (answer.refusal != HIMZOLVEN_ACCEPTED) {
         printf("         a rebuild is ");
         print_refusal(stdout, &opened->geometry, &(question){.marks = chosen}, answer.refusal, answer.place);
+    } else if (answer.count != 0 && opened->state.under_way.call == CALL_NONE) {
+        printf("         run: himzolven rebuild %s\n", opened->path);
     }
 }
 
@@ -36,8 +41,8 @@ static void print_status(const image *opened) {
     const geometry *of = &opened->geometry;
     const himzolven_sizes_answer *sizes = &opened->sizes;
     printf("design   %" PRIu32 " groups in %" PRIu32 " tuples of %" PRIu32 "\n", of->v, sizes->tuples, of->k);
-    printf("disks    %" PRIu32 ", %" PRIu32 " in a group, each with %" PRIu32 " parts of %" PRIu32 " units of %" PRIu32 " bytes\n",
-           sizes->disks, of->g, sizes->parts, of->g, of->u);
+    printf("disks    %" PRIu32 ", %" PRIu32 " in a group, ", sizes->disks, of->g);
+    printf("each with %" PRIu32 " parts of %" PRIu32 " units of %" PRIu32 " bytes\n", sizes->parts, of->g, of->u);
     printf("bytes    %" PRIu64 " on all disks, %" PRIu64 " for the user in %" PRIu32 " user units\n", sizes->bytes,
            image_user_bytes(opened), sizes->user_units);
     print_lost(opened);

@@ -22,13 +22,13 @@ static const struct {
     {"refusals", help_refusals, run_refusals},
 };
 
-static int has_help(char **words) {
+static bool has_help(char **words) {
     for (; *words != NULL; words++) {
         if (strcmp(*words, "--help") == 0) {
-            return 1;
+            return true;
         }
     }
-    return 0;
+    return false;
 }
 
 static int dispatch(const char *name, char **words) {

@@ -15,7 +15,7 @@
 #include "words.h"
 #include "work.h"
 
-enum { CHUNK_UNITS = 64 }; /* so many units are taken from the input before they are stored */
+enum { CHUNK_UNITS = 64 }; /* so many units are taken from the input, then stored; signals to end wait for the chunk */
 
 /* The bytes of a stream that lie in one user unit. */
 typedef struct {
@@ -98,7 +98,7 @@ static int store(image *opened, piece to, const uint8_t *bytes) {
 static int store_chunk(image *opened, uint64_t at, const uint8_t *bytes, size_t length, uint64_t *done) {
     int code = EXIT_DONE;
     size_t used = 0;
-    while (code == EXIT_DONE && used < length && !work_stopped()) {
+    while (code == EXIT_DONE && used < length) {
         piece next = piece_at(opened, at + used, length - used);
         code = store(opened, next, bytes + used);
         used += (size_t)next.length;
@@ -137,28 +137,26 @@ static int store_stream(image *opened, uint64_t at, uint8_t *buffer, uint64_t *d
     return code;
 }
 
-static int write_stream(image *opened, uint64_t at) {
-    uint64_t done = 0;
+static int write_stream(image *opened, uint64_t at, uint64_t *done) {
     uint8_t *buffer = malloc((size_t)CHUNK_UNITS * opened->geometry.u);
     if (buffer == NULL) {
         complain("%s", strerror(errno));
         return EXIT_IMAGE;
     }
-    int code = store_stream(opened, at, buffer, &done);
+    int code = store_stream(opened, at, buffer, done);
     free(buffer);
     if (work_stopped()) {
         complain("stopped by a signal");
         code = EXIT_INTERRUPTED;
     }
     if (code != EXIT_DONE) {
-        complain("%" PRIu64 " bytes were written before, from %" PRIu64 " on", done, at);
+        complain("%" PRIu64 " bytes were written before, from %" PRIu64 " on", *done, at);
     }
     return code;
 }
 
 /* One byte more than a unit is taken, so that a range that is too long is seen. */
-static int write_unit(image *opened, uint32_t user_unit, uint64_t offset) {
-    uint64_t done = 0;
+static int write_unit(image *opened, uint32_t user_unit, uint64_t offset, uint64_t *done) {
     uint8_t bytes[U_MAX + 1];
     ssize_t count = take(bytes, (size_t)opened->geometry.u + 1);
     if (count < 0) {
@@ -169,7 +167,7 @@ static int write_unit(image *opened, uint32_t user_unit, uint64_t offset) {
     if (answer.refusal != HIMZOLVEN_ACCEPTED) {
         return refused(opened, all, answer);
     }
-    return store_chunk(opened, (uint64_t)user_unit * opened->geometry.u + offset, bytes, (size_t)count, &done);
+    return store_chunk(opened, (uint64_t)user_unit * opened->geometry.u + offset, bytes, (size_t)count, done);
 }
 
 enum { UNIT, OFFSET, AT, LAST, OPTIONS };
@@ -188,7 +186,8 @@ static bool one_way(const option *options) {
 }
 
 int run_write(char **words) {
-    option options[OPTIONS] = {OPTION("--unit", NUMBER), OPTION("--offset", BYTES), OPTION("--at", BYTES), OPTION("--no-sync", FLAG)};
+    option options[OPTIONS] = {OPTION("--unit", NUMBER), OPTION("--offset", BYTES), OPTION("--at", BYTES),
+                               OPTION("--no-sync", FLAG)};
     if (!options_take(words, options, OPTIONS) || !words_are(words, 1, "one IMAGE") || !one_way(options)) {
         return EXIT_USAGE;
     }
@@ -198,12 +197,17 @@ int run_write(char **words) {
         return code;
     }
     opened.sync = !options[LAST].given;
-    code = options[AT].given ? write_stream(&opened, options[AT].number)
-                             : write_unit(&opened, options[UNIT].number, options[OFFSET].number);
+    uint64_t done = 0;
+    code = options[AT].given ? write_stream(&opened, options[AT].number, &done)
+                             : write_unit(&opened, options[UNIT].number, options[OFFSET].number, &done);
     opened.sync = true;
     int flushed = options[LAST].given ? image_flush(&opened) : EXIT_DONE;
     image_close(&opened);
-    return code != EXIT_DONE ? code : flushed;
+    code = code != EXIT_DONE ? code : flushed;
+    if (code == EXIT_DONE) {
+        printf("written: %" PRIu64 " bytes\n", done);
+    }
+    return code;
 }
 
 static int read_stream(image *opened, uint64_t at, uint64_t length) {
@@ -240,7 +244,8 @@ static uint64_t length_asked(const option *length, uint64_t all, uint64_t from) 
 }
 
 int run_read(char **words) {
-    option options[OPTIONS] = {OPTION("--unit", NUMBER), OPTION("--offset", BYTES), OPTION("--at", BYTES), OPTION("--length", BYTES)};
+    option options[OPTIONS] = {OPTION("--unit", NUMBER), OPTION("--offset", BYTES), OPTION("--at", BYTES),
+                               OPTION("--length", BYTES)};
     if (!options_take(words, options, OPTIONS) || !words_are(words, 1, "one IMAGE") || !one_way(options)) {
         return EXIT_USAGE;
     }

@@ -6,7 +6,8 @@ from desk import BAD_SETS, HELD_BACK, IMAGE, REFUSED, USAGE, State, expect, with
 COMMANDS = "create status write read fail plan rebuild recover audit refusals".split()
 F_ROWS = ["0 2 6", "0 1 3", "1 2 4", "2 3 5", "3 4 6", "0 4 5", "1 5 6"]
 # the plan of disk 9, 7 groups of 3 disks, as document 01 prints it
-PLAN_9 = """0 0 0,0 3 0,1 1 1,1 5 1,2 10 0,2 11 1,3 6 3,3 15 0,4 8 4,4 16 1,5 10 3,5 11 4,6 12 3,6 18 0,7 13 4,7 20 1,8 10 6,8 11 7"""
+PLAN_9 = ["0 0 0", "0 3 0", "1 1 1", "1 5 1", "2 10 0", "2 11 1", "3 6 3", "3 15 0", "4 8 4", "4 16 1", "5 10 3", "5 11 4",
+          "6 12 3", "6 18 0", "7 13 4", "7 20 1", "8 10 6", "8 11 7"]
 
 
 def says(desk, words, code, pattern, given=b""):
@@ -22,6 +23,9 @@ def helps(desk):
         says(desk, [name, "--help"], 0, rf"^usage: himzolven {name}[\s\S]*\nexamples?:\n  .*himzolven {name}")
     for code in range(8):
         expect(re.search(rf"^  {code}  ", everything, re.M), f"--help does not tell exit code {code}")
+    held = desk.run("create", desk.path("no.img"), "--groups", 9, "--disks-per-group", 3, code=REFUSED)[1]
+    listed = re.search(r"a design is held for (.*)", desk.run("create", "--help")[0].decode())[1]
+    expect(re.findall(r"\d+", held.split("only for")[1]) == re.findall(r"\d+", listed), "create --help lists other held designs")
     says(desk, ["--version"], 0, r"^himzolven: library .*, image version 1\n$")
     table = desk.run("refusals")[0].decode()
     expect(re.findall(r"^ ?(\d+)  ", table, re.M) == [str(n) for n in range(1, 15)], "refusals does not list 1 to 14")
@@ -75,7 +79,7 @@ def design_refusals(desk):
         (3, 7, ["# none"], 1, r"number 2, place 0: 7 groups in rows of 0;"),
         (3, 8, F_ROWS, 1, r"number 3, place 0: 8 groups can't stand in rows of 3"),
         (3, 7, F_ROWS[1:], 1, r"number 3, place 0: 7 groups in rows of 3 need 7 rows, and the list has 18 numbers, not 21"),
-        (3, 7, F_ROWS[:3] + ["2 5 3"] + F_ROWS[4:], 1, r"number 4, place 3: row 3 \(2 5 3\) does not ascend within the groups 0 to 6"),
+        (3, 7, F_ROWS[:3] + ["2 5 3"] + F_ROWS[4:], 1, r"number 4, place 3: row 3 \(2 5 3\) does not ascend within"),
         (3, 7, F_ROWS[:6] + ["1 5 7"], 1, r"number 4, place 6: row 6 \(1 5 7\) does not ascend within the groups 0 to 6"),
         (3, 7, F_ROWS[:6] + ["1 4 6"], 1, r"number 5, place 11: the pair of groups 1 and 4 stands in 2 rows, not in exactly one"),
         (9, 7, F_ROWS, 1, r"number 6, place 0: 9 disks in a group; allowed is a prime from 2 to 13 that is at least 3"),
@@ -89,7 +93,7 @@ def design_refusals(desk):
     ]:
         more = [] if rows is None else ["--design", design(desk, rows)]
         says(desk, [*new, g, "--groups", v, *more], code, pattern)
-    says(desk, [*new, 3, "--groups", 7, "--unit", "5K"], REFUSED, r"number 6, place 0: a unit of 5120 bytes; allowed are 1 to 4096")
+    says(desk, [*new, 3, "--groups", 7, "--unit", "5K"], REFUSED, r"number 6, place 0: a unit of 5120 bytes; allowed are 1 to")
     expect(not list(desk.directory.glob("refused.img*")), "a refused create leaves a file")
 
 
@@ -118,6 +122,8 @@ def call_refusals(desk):
     says(desk, ["fail", path, 3, 4, "--force"], 0, r"^lost: disks 0 1 3 4 18\n$")
     says(desk, ["rebuild", path], REFUSED, r"number 13, place 1: .* lost: disks 0 1 3 4 18\n")
     says(desk, ["status", path], 0, r"lost     disks 0 1 3 4 18\n         a rebuild is refused, number 13, place 1")
+    path.write_bytes(before)
+    says(desk, ["status", path], 0, r"lost     disks 0 1 18\n         run: himzolven rebuild calls.img\ncut off  nothing\n")
     bad = State.of(before).with_marks([])
     bad.marks = bytes([0, 0, 0, 0, 0, 2]) + bad.marks[6:]
     path.write_bytes(with_states(before, bad))
@@ -126,19 +132,21 @@ def call_refusals(desk):
 
 def plans(desk):
     path = desk.create("plan.img")
-    expect(desk.run("plan", path, 9, "--lines")[0].decode().splitlines() == PLAN_9.split(","), "the plan is not that of document 01")
-    says(desk, ["plan", path, 9], 0, r"^unit 0 is the XOR of disk 0 unit 0, disk 3 unit 0\nunit 1 .*\n(.*\n){6}unit 8 .* unit 7\n$")
+    lines = desk.run("plan", path, 9, "--lines")[0].decode().splitlines()
+    expect(lines == PLAN_9, "the plan is not that of document 01")
+    says(desk, ["plan", path, 9], 0, r"^unit 0 is the XOR of disk 0 unit 0, disk 3 unit 0\n(.*\n){7}unit 8 .* unit 7\n$")
 
 
 def status_words(desk):
     path = desk.create("words.img", 7, 3, 4096)
-    says(desk, ["status", path], 0, r"7 groups in 7 tuples of 3\n.* 21, 3 in a group, each with 3 parts of 3 units of 4096 bytes\n"
+    says(desk, ["status", path], 0,
+         r"7 groups in 7 tuples of 3\n.* 21, 3 in a group, each with 3 parts of 3 units of 4096 bytes\n"
          r".* 774144 on all disks, 344064 for the user in 84 user units\n.* no disk\ncut off  nothing\n$")
     says(desk, ["audit", path], 0, r"^105 sets, 0 bad\n$")
     image = bytearray(path.read_bytes())
     image[28672 + 2 * 4096] ^= 1  # disk 0, unit 2: inner parity of diagonal 2 of the first region
     path.write_bytes(image)
-    says(desk, ["audit", path], BAD_SETS, r"105 sets, 1 bad; the lowest is set 8, the inner set of diagonal 2 of group 0 in tuple 0\n")
+    says(desk, ["audit", path], BAD_SETS, r"105 sets, 1 bad; the lowest is set 8, the inner set of diagonal 2 of group 0 in")
     says(desk, ["recover", path], 0, r"^nothing was cut off\n$")
     says(desk, ["create", path, "--groups", 7, "--disks-per-group", 3], HELD_BACK, r"words.img: exists already")
     says(desk, ["status", desk.path("no.img")], IMAGE, r"no.img: No such file")

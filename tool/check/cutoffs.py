@@ -1,10 +1,12 @@
 """Calls that are cut off: by images that are put together from before and after, and by kill -9 at random moments."""
+import mmap
 import random
 import time
+from subprocess import DEVNULL
 
-from desk import ARRAY, BAD_SETS, DONE, HELD_BACK, REBUILD, REFUSED, WRITE, State, expect, with_states
+from desk import ARRAY, BAD_SETS, DONE, HEADER, HELD_BACK, REBUILD, REFUSED, WRITE, State, expect, with_states
 
-STREAMS, REBUILDS = 40, 24  # how many are killed
+STREAMS, REBUILDS = 40, 16  # how many are killed
 
 
 def parts(before, after, u):
@@ -98,20 +100,19 @@ def torn_and_lost(desk):
             expect(torn.path.read_bytes() == image, f"recover with {lost} lost is refused, and changes the image")
             expect(len(lost) > 1, f"recover with {lost} lost is refused")
             refused += 1
+            torn.path.write_bytes(torn.image(torn.parts[:2]))
+            expect("number 13" in desk.run("fail", torn.path, *lost, code=REFUSED)[1], f"fail {lost}: no way back")
     expect(accepted and refused, f"recover with disks lost: {accepted} accepted, {refused} refused")
 
 
 def lost_after_the_cut(desk):
-    """fail while a write is cut off asks whether recover would still be accepted."""
+    """One of the write's four disks is lost when the write has been cut off."""
     torn = Torn(desk, random.Random(3))
-    data = (parts(torn.before, torn.after, torn.u)[0] - ARRAY) // torn.disk_bytes
     torn.path.write_bytes(torn.image(torn.parts[:2]))
-    expect("was cut off" in desk.run("fail", torn.path, data)[1], "fail does not warn of the call that was cut off")
+    disk = (torn.parts[0] - ARRAY) // torn.disk_bytes
+    expect("was cut off" in desk.run("fail", torn.path, disk)[1], "fail does not warn of the call that was cut off")
     desk.run("recover", torn.path)
     torn.whole("one of the four disks lost after the cut")
-    torn.path.write_bytes(torn.image(torn.parts[:2]))
-    four = [(part - ARRAY) // torn.disk_bytes for part in torn.parts]
-    expect("number 13" in desk.run("fail", torn.path, *four, code=REFUSED)[1], "fail of all four disks is not refused")
 
 
 def torn_rebuilds(desk):
@@ -129,10 +130,22 @@ def torn_rebuilds(desk):
         expect(torn.path.read_bytes()[ARRAY:] == torn.before[ARRAY:], f"rebuild of {lost} cut off: recover gives other bytes")
 
 
-def killed(desk, dice, longest, *words, given=None):
-    """Starts a command and kills it after a random time."""
-    tool = desk.start(*words, stdin=given, stdout=-3, stderr=-3)
-    time.sleep(dice.random() * longest)
+def wait_for_record(tool, path):
+    """Returns when the image says that a call is under way, or the tool has ended."""
+    with open(path, "rb") as file, mmap.mmap(file.fileno(), ARRAY, prot=mmap.PROT_READ) as image:
+        while image[HEADER + 8] == 0 and tool.poll() is None:
+            pass
+
+
+def killed(desk, dice, longest, command, path, *words, given=None):
+    """Starts a command and kills it after a random time, or a random moment after it has said that a call is under way."""
+    tool = desk.start(command, path, *words, stdin=given, stdout=DEVNULL, stderr=DEVNULL)
+    if command != "fail" and dice.random() < 0.7:
+        wait_for_record(tool, path)
+        longest /= 20
+    end = time.monotonic() + dice.random() * longest
+    while time.monotonic() < end:
+        pass
     tool.kill()
     tool.wait()
 
@@ -153,8 +166,16 @@ def recovered(desk, dice, path, longest):
     return cut, bad
 
 
+def is_between(out, old, new, u):
+    """A stream was cut off: before some user unit all is new, after it all is old, and in it each byte is either."""
+    at = next((at for at in range(0, len(new), u) if out[at : at + u] != new[at : at + u]), len(new))
+    expect(out[at + u :] == old[at + u :], f"cut off at user unit {at // u}, and a later one has changed")
+    either = all(byte in pair for byte, *pair in zip(out[at : at + u], old[at:], new[at:]))
+    expect(either, f"cut off at user unit {at // u}, and a byte of it is neither old nor new")
+
+
 def killed_writes(desk):
-    """kill -9 in streams: before some user unit all is new, after it all is old, and in it each byte is either."""
+    """kill -9 in streams."""
     dice, u = random.Random(), 4096
     path, stream = desk.create("killed.img", 7, 7, u), desk.path("stream")
     model, cuts, bads = desk.contents(path), 0, 0
@@ -167,9 +188,7 @@ def killed_writes(desk):
         cut, bad = recovered(desk, dice, path, longest / 10)
         cuts, bads = cuts + cut, bads + bad
         out = desk.contents(path)
-        at = next((at for at in range(0, len(new), u) if out[at : at + u] != new[at : at + u]), len(new))
-        expect(out[at + u :] == model[at + u :], f"killed at user unit {at // u}: a later one has changed")
-        expect(all(byte in pair for byte, *pair in zip(out[at : at + u], model[at:], new[at:])), f"user unit {at // u} is neither old nor new")
+        is_between(out, model, new, u)
         desk.run("audit", path)
         model = out
     expect(cuts, f"no write of {STREAMS} streams was cut off")
@@ -179,7 +198,7 @@ def killed_writes(desk):
 def killed_rebuilds(desk):
     """kill -9 in fail, rebuild and recover: all bytes come back."""
     dice = random.Random()
-    path = desk.create("shelves.img", 31, 7, 1024)
+    path = desk.create("shelves.img", 31, 7, 4096)
     desk.run("write", path, "--at", 0, "--no-sync", given=dice.randbytes(len(desk.contents(path))))
     array = path.read_bytes()[ARRAY:]
     lost = [*range(7), *range(7, 217, 7)]

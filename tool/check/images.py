@@ -4,9 +4,11 @@ import random
 import signal
 import struct
 import time
+from subprocess import PIPE
 
 from desk import ARRAY, DONE, HEADER, HELD_BACK, IMAGE, IN_USE, INTERRUPTED, STATE, WRITE, State, expect, header_of, with_states
 
+PIPES = {"stdin": PIPE, "stdout": PIPE, "stderr": PIPE}
 LOOKS = [["status"], ["read", "--unit", 0], ["plan", 0], ["audit"]]
 STORES = [["write", "--unit", 0], ["fail", 0], ["rebuild"], ["recover"]]
 
@@ -75,8 +77,9 @@ def one_copy(desk):
     spoiled = [bytearray(image), bytearray(image)]
     spoiled[0][HEADER + 64] ^= 1
     spoiled[1][HEADER + STATE + 4000] ^= 1
-    for what, other in [("first damaged", spoiled[0]), ("second damaged", spoiled[1]), ("first older", with_states(image, before, now)),
-                        ("second older", with_states(image, now, before))]:
+    others = {"first damaged": spoiled[0], "second damaged": spoiled[1], "first older": with_states(image, before, now),
+              "second older": with_states(image, now, before)}
+    for what, other in others.items():
         path.write_bytes(other)
         out, error = desk.run("status", path)
         expect(b"lost     disk 5\n" in out, f"{what}: the state is not the newest whole one")
@@ -93,7 +96,8 @@ def locks(desk):
         with open(path, "rb") as other:
             fcntl.flock(other, lock)
             for words in held_off:
-                expect("in use" in desk.run(*on(words, path), given=b"x", code=IN_USE)[1], f"{words[0]}: not said that the image is in use")
+                error = desk.run(*on(words, path), given=b"x", code=IN_USE)[1]
+                expect("in use" in error, f"{words[0]}: not said that the image is in use")
             desk.run("create", path, "--groups", 7, "--disks-per-group", 3, "--force", code=IN_USE)
             if lock == fcntl.LOCK_SH:
                 for words in LOOKS:
@@ -108,7 +112,8 @@ def creation(desk):
     desk.run("create", path, "--groups", 7, "--disks-per-group", 3, code=HELD_BACK)
     expect(path.read_bytes() == before, "create changes an image that is there")
     desk.create("new.img", 7, 5, 16, "--force")
-    expect(path.stat().st_size == ARRAY + 35 * 15 * 16 and not any(path.read_bytes()[ARRAY:]), "create --force makes no new image")
+    array = path.read_bytes()[ARRAY:]
+    expect(len(array) == 35 * 15 * 16 and not any(array), "create --force makes no new image")
     desk.path("folder").mkdir()
     desk.run("create", desk.path("folder"), "--groups", 7, "--disks-per-group", 3, "--force", code=IMAGE)
     desk.run("create", desk.path("folder/no/where.img"), "--groups", 7, "--disks-per-group", 3, code=IMAGE)
@@ -118,13 +123,11 @@ def creation(desk):
 def interrupted(desk):
     """SIGINT in the middle of a stream: what was taken by whole chunks is written, nothing is cut off."""
     path = desk.create("signal.img", 7, 3, 512)
-    tool = desk.start("write", path, "--at", 0, stdin=-1, stdout=-1, stderr=-1)
+    tool = desk.start("write", path, "--at", 0, **PIPES)
     tool.stdin.write(b"a" * (64 * 512 + 100))  # a chunk, and the beginning of another
     tool.stdin.flush()
-    for _ in range(500):
-        if desk_has(path, b"a" * 100, 64) or tool.poll() is not None:
-            break
-        time.sleep(0.01)
+    while not has_settled(path, b"a" * 512) and tool.poll() is None:
+        time.sleep(0.005)
     tool.send_signal(signal.SIGINT)
     error = tool.communicate(timeout=20)[1].decode()
     expect(tool.returncode == INTERRUPTED and "32768 bytes were written before" in error, f"SIGINT: {tool.returncode}, {error}")
@@ -133,10 +136,34 @@ def interrupted(desk):
     desk.run("audit", path, code=DONE)
 
 
-def desk_has(path, run, times):
-    """The array holds the run at least so often, and no call is under way."""
+def has_settled(path, bytes):
+    """The array holds the bytes, and both copies of the state say that no call is under way."""
     image = path.read_bytes()
-    return image[ARRAY:].count(run) >= times and image[HEADER : HEADER + STATE] == image[HEADER + STATE : ARRAY] and State.of(image).call == 0
+    first, second = image[HEADER : HEADER + STATE], image[HEADER + STATE : ARRAY]
+    return bytes in image[ARRAY:] and first == second and first[8] == 0
 
 
-CHECKS = [wrong_images, one_copy, locks, creation, interrupted]
+def shrunk(desk):
+    """The file is cut short under the tool's map: it ends with words, and the record stays."""
+    path = desk.create("shrunk.img", 7, 3, 512)
+    tool = desk.start("write", path, "--at", 0, **PIPES)
+    with open(path, "r+b") as file:
+        while is_free(file):
+            time.sleep(0.005)
+        file.truncate(ARRAY)
+    error = tool.communicate(b"x" * 1000, timeout=20)[1].decode()
+    told = tool.returncode == IMAGE and "can't be read or written any more" in error
+    expect(told, f"a shorter file: {tool.returncode}, {error}")
+    expect(State.of(path.read_bytes()).call == WRITE, "a shorter file: no record is left")
+
+
+def is_free(file):
+    try:
+        fcntl.flock(file, fcntl.LOCK_SH | fcntl.LOCK_NB)
+    except BlockingIOError:
+        return False
+    fcntl.flock(file, fcntl.LOCK_UN)
+    return True
+
+
+CHECKS = [wrong_images, one_copy, locks, creation, interrupted, shrunk]
