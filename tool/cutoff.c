@@ -25,7 +25,7 @@ void warn_cut_off(const image *opened) {
     if (opened->state.under_way.call != CALL_NONE) {
         fputs("himzolven: ", stderr);
         print_cut_off(stderr, opened);
-        fprintf(stderr, "; `himzolven recover %s` makes the parities whole\n", opened->path);
+        fprintf(stderr, "; `himzolven recover %s` makes it whole\n", opened->path);
     }
 }
 

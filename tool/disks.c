@@ -21,6 +21,12 @@ static int refused(const image *opened, const uint8_t *marks, himzolven_count_an
     return tell_refusal(&opened->geometry, &(question){.marks = marks}, answer.refusal, answer.place);
 }
 
+/* A signal to end came before anything was stored. */
+static int interrupted(const image *opened) {
+    complain("%s: stopped by a signal; nothing is changed", opened->path);
+    return EXIT_INTERRUPTED;
+}
+
 /* Which disks the words name. */
 static int read_disks(const image *opened, char **words, uint8_t *hit) {
     for (; *words != NULL; words++) {
@@ -83,8 +89,8 @@ static int fail_disks(image *opened, char **words, uint64_t seed, bool force) {
         marks[disk] = opened->state.marks[disk] | hit[disk];
     }
     code = code != EXIT_DONE ? code : foresee(opened, marks, force);
-    if (code != EXIT_DONE) {
-        return code;
+    if (code != EXIT_DONE || work_stopped()) {
+        return code != EXIT_DONE ? code : interrupted(opened);
     }
     memcpy(opened->state.marks, marks, sizeof marks);
     code = image_commit(opened);
@@ -119,14 +125,14 @@ int run_fail(char **words) {
 }
 
 /* Rebuilds the disks with these marks. Marks and record are on the disk before the call; until all is back they stay. */
-static int rebuild(image *opened, const uint8_t *marks) {
+static int rebuild(image *opened, const uint8_t *marks, uint32_t units) {
     memcpy(opened->state.marks, marks, MARKS_MAX);
     opened->state.under_way = (record){CALL_REBUILD, 0, 0, 0};
     int code = image_commit(opened);
     if (code != EXIT_DONE) {
         return code;
     }
-    work_begin(0, "rebuilding on %" PRIu64 " bytes", opened->sizes.bytes);
+    work_begin(0, "rebuilding %" PRIu32 " units of %" PRIu32 " bytes", units, opened->geometry.u);
     himzolven_count_answer answer = array_rebuild(opened);
     code = answer.refusal != HIMZOLVEN_ACCEPTED ? refused(opened, marks, answer) : image_end(opened);
     work_end();
@@ -145,7 +151,10 @@ static int choose_and_rebuild(image *opened) {
     if (!choose_marks(opened, opened->state.marks, chosen, &answer)) {
         return no_memory();
     }
-    return answer.refusal != HIMZOLVEN_ACCEPTED ? refused(opened, chosen, answer) : rebuild(opened, chosen);
+    if (answer.refusal != HIMZOLVEN_ACCEPTED) {
+        return refused(opened, chosen, answer);
+    }
+    return work_stopped() ? interrupted(opened) : rebuild(opened, chosen, answer.count);
 }
 
 int run_rebuild(char **words) {

@@ -30,7 +30,7 @@ static void print_lost(const image *opened) {
         return;
     }
     if (answer.refusal != HIMZOLVEN_ACCEPTED) {
-        printf("         a rebuild is ");
+        printf("         %s is ", opened->state.under_way.call == CALL_NONE ? "rebuild" : "recover");
         print_refusal(stdout, &opened->geometry, &(question){.marks = chosen}, answer.refusal, answer.place);
     } else if (answer.count != 0 && opened->state.under_way.call == CALL_NONE) {
         printf("         run: himzolven rebuild %s\n", opened->path);

@@ -17,7 +17,7 @@ static const struct {
     [HIMZOLVEN_NOT_WHOLE] = {"the design can't come out whole, or its list has another length", "-"},
     [HIMZOLVEN_BAD_ROW] = {"a row names a group that is not there, or does not ascend", "the first such row"},
     [HIMZOLVEN_BAD_PAIR] = {"a pair of groups a<b does not stand in exactly one row", "a times groups, plus b"},
-    [HIMZOLVEN_BAD_SIZE] = {"disks in a group not a prime of 2 to 13 or fewer than groups in a row, or a unit not of 1 to 4096 bytes",
+    [HIMZOLVEN_BAD_SIZE] = {"disks in a group not a prime of 2 to 13 or fewer than groups in a row, or a unit not of 1 to 4096",
                             "-"},
     [HIMZOLVEN_BAD_LENGTH] = {"array or marks of another length, or an array above 1,073,741,824 bytes", "-"},
     [HIMZOLVEN_BAD_MARK] = {"a mark is neither 0 nor 1", "the lowest such disk"},

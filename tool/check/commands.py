@@ -1,7 +1,10 @@
 """The command line: help, words for each refusal, exit codes."""
+import os
 import re
+import select
+from subprocess import PIPE
 
-from desk import BAD_SETS, HELD_BACK, IMAGE, REFUSED, USAGE, State, expect, with_states
+from desk import BAD_SETS, HELD_BACK, IMAGE, REFUSED, USAGE, State, expect, wait_until, with_states
 
 COMMANDS = "create status write read fail plan rebuild recover audit refusals".split()
 F_ROWS = ["0 2 6", "0 1 3", "1 2 4", "2 3 5", "3 4 6", "0 4 5", "1 5 6"]
@@ -121,7 +124,7 @@ def call_refusals(desk):
         expect(path.read_bytes() == before, f"{words[0]} {words[2:]}: refused, and the image changes")
     says(desk, ["fail", path, 3, 4, "--force"], 0, r"^lost: disks 0 1 3 4 18\n$")
     says(desk, ["rebuild", path], REFUSED, r"number 13, place 1: .* lost: disks 0 1 3 4 18\n")
-    says(desk, ["status", path], 0, r"lost     disks 0 1 3 4 18\n         a rebuild is refused, number 13, place 1")
+    says(desk, ["status", path], 0, r"lost     disks 0 1 3 4 18\n         rebuild is refused, number 13, place 1")
     path.write_bytes(before)
     says(desk, ["status", path], 0, r"lost     disks 0 1 18\n         run: himzolven rebuild calls.img\ncut off  nothing\n")
     bad = State.of(before).with_marks([])
@@ -152,4 +155,22 @@ def status_words(desk):
     says(desk, ["status", desk.path("no.img")], IMAGE, r"no.img: No such file")
 
 
-CHECKS = [helps, wrong_lines, design_refusals, call_refusals, plans, status_words]
+def progress(desk):
+    """Input that takes more than a second: one line to a file, a line that counts the seconds to a terminal; then the time."""
+    terminal, side = os.openpty()
+    writers = []
+    for name, errors in [("file.img", PIPE), ("terminal.img", side)]:
+        path = desk.create(name, 7, 3, 512)
+        writers.append(desk.start("write", path, "--at", 0, stdin=PIPE, stdout=PIPE, stderr=errors))
+    wait_until(lambda: len(select.select([writers[0].stderr, terminal], [], [], 0)[0]) == 2, "a line that tells of the work")
+    quiet, loud = [writer.communicate(b"four", timeout=20)[1] for writer in writers]
+    told = os.read(terminal, 4096).decode()
+    os.close(terminal)
+    os.close(side)
+    what = "himzolven: writing user bytes from 0 on"
+    shape = rf"({what}: \d+ s\r)+\r?\n{what}: took \d+\.\d s\r\n"
+    expect(loud is None and re.fullmatch(shape, told), f"on a terminal: {told!r}")
+    expect(re.fullmatch(rf"{what} \.\.\n{what}: took \d+\.\d s\n", quiet.decode()), f"to a file: {quiet}")
+
+
+CHECKS = [helps, wrong_lines, design_refusals, call_refusals, plans, status_words, progress]

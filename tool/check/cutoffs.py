@@ -97,6 +97,7 @@ def torn_and_lost(desk):
             accepted += 1
         else:
             expect("number 13" in error and "no way to recover" in error, f"recover with {lost} lost: {error}")
+            expect(b"recover is refused, number 13" in desk.run("status", torn.path)[0], f"status with {lost} lost")
             expect(torn.path.read_bytes() == image, f"recover with {lost} lost is refused, and changes the image")
             expect(len(lost) > 1, f"recover with {lost} lost is refused")
             refused += 1
@@ -198,7 +199,7 @@ def killed_writes(desk):
 def killed_rebuilds(desk):
     """kill -9 in fail, rebuild and recover: all bytes come back."""
     dice = random.Random()
-    path = desk.create("shelves.img", 31, 7, 4096)
+    path = desk.create("shelves.img", 31, 7, 2048)
     desk.run("write", path, "--at", 0, "--no-sync", given=dice.randbytes(len(desk.contents(path))))
     array = path.read_bytes()[ARRAY:]
     lost = [*range(7), *range(7, 217, 7)]

@@ -1,6 +1,7 @@
 """What the tests share: running the tool, and images as IMAGE.md describes them, read and made without the tool."""
 import struct
 import subprocess
+import time
 import zlib
 
 DONE, REFUSED, USAGE, IMAGE, BAD_SETS, HELD_BACK, IN_USE, INTERRUPTED = range(8)
@@ -15,6 +16,13 @@ class Wrong(Exception):
 def expect(true, message):
     if not true:
         raise Wrong(message)
+
+
+def wait_until(true, what):
+    end = time.monotonic() + 20
+    while not true():
+        expect(time.monotonic() < end, f"{what}: not within 20 s")
+        time.sleep(0.005)
 
 
 class Desk:

@@ -3,10 +3,10 @@ import fcntl
 import random
 import signal
 import struct
-import time
 from subprocess import PIPE
 
-from desk import ARRAY, DONE, HEADER, HELD_BACK, IMAGE, IN_USE, INTERRUPTED, STATE, WRITE, State, expect, header_of, with_states
+from desk import (ARRAY, DONE, HEADER, HELD_BACK, IMAGE, IN_USE, INTERRUPTED, STATE, WRITE, State, expect, header_of, wait_until,
+                  with_states)
 
 PIPES = {"stdin": PIPE, "stdout": PIPE, "stderr": PIPE}
 LOOKS = [["status"], ["read", "--unit", 0], ["plan", 0], ["audit"]]
@@ -126,8 +126,7 @@ def interrupted(desk):
     tool = desk.start("write", path, "--at", 0, **PIPES)
     tool.stdin.write(b"a" * (64 * 512 + 100))  # a chunk, and the beginning of another
     tool.stdin.flush()
-    while not has_settled(path, b"a" * 512) and tool.poll() is None:
-        time.sleep(0.005)
+    wait_until(lambda: has_settled(path, b"a" * 512) or tool.poll() is not None, "a chunk is written")
     tool.send_signal(signal.SIGINT)
     error = tool.communicate(timeout=20)[1].decode()
     expect(tool.returncode == INTERRUPTED and "32768 bytes were written before" in error, f"SIGINT: {tool.returncode}, {error}")
@@ -148,8 +147,7 @@ def shrunk(desk):
     path = desk.create("shrunk.img", 7, 3, 512)
     tool = desk.start("write", path, "--at", 0, **PIPES)
     with open(path, "r+b") as file:
-        while is_free(file):
-            time.sleep(0.005)
+        wait_until(lambda: not is_free(file), "write takes the lock")
         file.truncate(ARRAY)
     error = tool.communicate(b"x" * 1000, timeout=20)[1].decode()
     told = tool.returncode == IMAGE and "can't be read or written any more" in error
