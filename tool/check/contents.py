@@ -16,7 +16,7 @@ class Session:
         if design is not None:
             desk.path("rows.txt").write_text(design)
             more = ["--design", desk.path("rows.txt")]
-        self.desk, self.dice, self.u, self.g = desk, dice, u, g
+        self.desk, self.dice, self.u = desk, dice, u
         self.path = desk.create("session.img", v, g, u, "--force", *more)
         self.model = bytearray(desk.contents(self.path))
         self.disks, self.lost = v * g, set()
