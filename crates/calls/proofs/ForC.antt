@@ -21,13 +21,13 @@ use Rattle.rebuilding.specs.Rebuild.{restoredOf, rebuiltOf, rebuildRules}
 use Rattle.rebuilding.specs.Reasons.{rebuildRows}
 use Rattle.planning.specs.Plan.{triplesOf, planned, planRules}
 use Rattle.planning.specs.Reasons.{planRows}
-use Rattle.host.specs.declared.Answer.{Answer}
-use Rattle.host.specs.declared.SizesAnswer.{SizesAnswer}
-use Rattle.host.specs.declared.MapAnswer.{MapAnswer}
-use Rattle.host.specs.declared.RoleAnswer.{RoleAnswer}
-use Rattle.host.specs.declared.AuditAnswer.{AuditAnswer}
-use Rattle.host.specs.declared.CountAnswer.{CountAnswer}
-use Rattle.host.specs.Flat.{geometry}
+use Rattle.answers.specs.declared.Answer.{Answer}
+use Rattle.answers.specs.declared.SizesAnswer.{SizesAnswer}
+use Rattle.answers.specs.declared.MapAnswer.{MapAnswer}
+use Rattle.answers.specs.declared.RoleAnswer.{RoleAnswer}
+use Rattle.answers.specs.declared.AuditAnswer.{AuditAnswer}
+use Rattle.answers.specs.declared.CountAnswer.{CountAnswer}
+use Rattle.answers.specs.Flat.{geometry}
 use Rattle.host.proofs.Told.{front-answer, front-count}
 use Rattle.host.proofs.Exports as exports
 use Rattle.host.proofs.Some as some

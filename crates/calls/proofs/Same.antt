@@ -19,7 +19,7 @@ use Rattle.auditing.proofs.TwoResults.{some-audited}
 use Rattle.rebuilding.proofs.TwoResults.{some-result}
 use Rattle.planning.specs.Plan.{triplesOf, planRules}
 use Rattle.planning.proofs.TwoResults.{some-planned}
-use Rattle.host.specs.Flat.{geometry, flatAnswer, flatSizes, flatMap, flatRole, flatAudit, flatCount}
+use Rattle.answers.specs.Flat.{geometry, flatAnswer, flatSizes, flatMap, flatRole, flatAudit, flatCount}
 use Rattle.calls.specs.Same.{SameAsTheCall}
 
 pub same-as-the-call : SameAsTheCall

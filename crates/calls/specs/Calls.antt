@@ -46,7 +46,7 @@ use Rattle.lostset.proofs.LostSet.mark.Reads as mark
 use Rattle.lostset.proofs.LostSet.clear.Reads as clear
 use Rattle.lostset.proofs.LostSet.has.Reads as has
 use Rattle.lostset.proofs.from_marks.Reads as from-marks
-use Rattle.host.specs.Flat.{geometry}
+use Rattle.answers.specs.Flat.{geometry}
 use Rattle.host.proofs.himzolven_fill.Reads as c-fill
 use Rattle.host.proofs.himzolven_check.Reads as c-check
 use Rattle.host.proofs.himzolven_sizes.Reads as c-sizes

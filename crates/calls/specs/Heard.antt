@@ -2,12 +2,12 @@
 -- `place`". Assumes nothing.
 use Prim.Native.Nat.{ℕ, zero, suc}
 use Rattle.refusal.specs.Refusal.{Outcome, refused, accepted}
-use Rattle.host.specs.declared.Answer.{Answer}
-use Rattle.host.specs.declared.SizesAnswer.{SizesAnswer}
-use Rattle.host.specs.declared.MapAnswer.{MapAnswer}
-use Rattle.host.specs.declared.RoleAnswer.{RoleAnswer}
-use Rattle.host.specs.declared.AuditAnswer.{AuditAnswer}
-use Rattle.host.specs.declared.CountAnswer.{CountAnswer}
+use Rattle.answers.specs.declared.Answer.{Answer}
+use Rattle.answers.specs.declared.SizesAnswer.{SizesAnswer}
+use Rattle.answers.specs.declared.MapAnswer.{MapAnswer}
+use Rattle.answers.specs.declared.RoleAnswer.{RoleAnswer}
+use Rattle.answers.specs.declared.AuditAnswer.{AuditAnswer}
+use Rattle.answers.specs.declared.CountAnswer.{CountAnswer}
 
 abbrev pub heard : {R : Type 0} → (refusal place : ℕ) → R → Outcome R
 heard zero p r = accepted r

@@ -20,7 +20,7 @@ use Rattle.writing.proofs.write.Reads as write
 use Rattle.auditing.proofs.audit.Reads as audit
 use Rattle.rebuilding.proofs.rebuild.Reads as rebuild
 use Rattle.planning.proofs.plan.Reads as plan
-use Rattle.host.specs.Flat.{geometry}
+use Rattle.answers.specs.Flat.{geometry}
 use Rattle.host.proofs.himzolven_fill.Reads as c-fill
 use Rattle.host.proofs.himzolven_check.Reads as c-check
 use Rattle.host.proofs.himzolven_sizes.Reads as c-sizes
@@ -39,13 +39,13 @@ use Rattle.address.specs.declared.Located.{Located}
 use Rattle.auditing.specs.declared.Audited.{Audited}
 use Rattle.rebuilding.specs.declared.Rebuilt.{Rebuilt}
 use Rattle.planning.specs.declared.Planned.{Planned}
-use Rattle.host.specs.declared.Answer.{Answer}
-use Rattle.host.specs.declared.SizesAnswer.{SizesAnswer}
-use Rattle.host.specs.declared.MapAnswer.{MapAnswer}
-use Rattle.host.specs.declared.RoleAnswer.{RoleAnswer}
-use Rattle.host.specs.declared.AuditAnswer.{AuditAnswer}
-use Rattle.host.specs.declared.CountAnswer.{CountAnswer}
-use Rattle.host.specs.Flat.{flatAnswer, flatSizes, flatMap, flatRole, flatAudit, flatCount}
+use Rattle.answers.specs.declared.Answer.{Answer}
+use Rattle.answers.specs.declared.SizesAnswer.{SizesAnswer}
+use Rattle.answers.specs.declared.MapAnswer.{MapAnswer}
+use Rattle.answers.specs.declared.RoleAnswer.{RoleAnswer}
+use Rattle.answers.specs.declared.AuditAnswer.{AuditAnswer}
+use Rattle.answers.specs.declared.CountAnswer.{CountAnswer}
+use Rattle.answers.specs.Flat.{flatAnswer, flatSizes, flatMap, flatRole, flatAudit, flatCount}
 use Rattle.calls.specs.Refuses.{Lent}
 
 pub record SameAsTheCall : Type 0 where

@@ -40,13 +40,13 @@ use Rattle.planning.proofs.Reasons.{plan-exact}
 use Rattle.rebuilding.specs.Rebuild.{restoredOf, rebuildRules}
 use Rattle.rebuilding.specs.Reasons.{rebuildRows}
 use Rattle.rebuilding.proofs.Reasons.{rebuild-exact}
-use Rattle.host.specs.declared.Answer.{Answer}
-use Rattle.host.specs.declared.SizesAnswer.{SizesAnswer}
-use Rattle.host.specs.declared.MapAnswer.{MapAnswer}
-use Rattle.host.specs.declared.RoleAnswer.{RoleAnswer}
-use Rattle.host.specs.declared.AuditAnswer.{AuditAnswer}
-use Rattle.host.specs.declared.CountAnswer.{CountAnswer}
-use Rattle.host.specs.Flat.{geometry}
+use Rattle.answers.specs.declared.Answer.{Answer}
+use Rattle.answers.specs.declared.SizesAnswer.{SizesAnswer}
+use Rattle.answers.specs.declared.MapAnswer.{MapAnswer}
+use Rattle.answers.specs.declared.RoleAnswer.{RoleAnswer}
+use Rattle.answers.specs.declared.AuditAnswer.{AuditAnswer}
+use Rattle.answers.specs.declared.CountAnswer.{CountAnswer}
+use Rattle.answers.specs.Flat.{geometry}
 use Rattle.host.specs.Told.{Told}
 use Rattle.host.proofs.Told.{front-tells, front-answer, front-sizes, front-map, front-role, front-audit, front-count}
 use Rattle.host.proofs.himzolven_fill.Reads as fill

@@ -1,4 +1,3 @@
 pub mod Exports
-pub mod Samples
 pub mod Told
 pub mod Some

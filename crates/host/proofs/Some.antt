@@ -5,12 +5,12 @@ use mathlib.Core.Path.{refl}
 use mathlib.Core.List.{List}
 use contract.Lifetimes.{Lfts}
 use denote.Ref.{RefT, at-last}
-use Rattle.host.specs.declared.Answer.{Answer}
-use Rattle.host.specs.declared.SizesAnswer.{SizesAnswer}
-use Rattle.host.specs.declared.MapAnswer.{MapAnswer}
-use Rattle.host.specs.declared.RoleAnswer.{RoleAnswer}
-use Rattle.host.specs.declared.AuditAnswer.{AuditAnswer}
-use Rattle.host.specs.declared.CountAnswer.{CountAnswer}
+use Rattle.answers.specs.declared.Answer.{Answer}
+use Rattle.answers.specs.declared.SizesAnswer.{SizesAnswer}
+use Rattle.answers.specs.declared.MapAnswer.{MapAnswer}
+use Rattle.answers.specs.declared.RoleAnswer.{RoleAnswer}
+use Rattle.answers.specs.declared.AuditAnswer.{AuditAnswer}
+use Rattle.answers.specs.declared.CountAnswer.{CountAnswer}
 use Rattle.host.proofs.Exports.{FillAllowed, CheckAllowed, SizesAllowed, MapAllowed, RoleAllowed, FormatAllowed}
 use Rattle.host.proofs.Exports.{ReadAllowed, WriteAllowed, AuditAllowed, PlanAllowed, RebuildAllowed}
 

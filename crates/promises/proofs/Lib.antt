@@ -13,4 +13,5 @@ pub mod Finding
 pub mod Reaching
 pub mod Passing
 pub mod Sources
+pub mod Answers
 pub mod Equation

@@ -1,6 +1,6 @@
 -- `host::himzolven_audit` meets its contract. Assumes nothing.
 use mathlib.Core.Path.{ap, _∙_}
-use Rattle.host.specs.Flat.{flatAudit}
+use Rattle.answers.specs.Flat.{flatAudit}
 use borrow.Author.Needs.{needs}
 use Rattle.host.proofs.himzolven_audit.Statement.{statement}
 use Rattle.host.proofs.himzolven_audit.Tie as tie

@@ -1,6 +1,6 @@
 -- `host::himzolven_map` meets its contract. Assumes nothing.
 use mathlib.Core.Path.{ap, _∙_}
-use Rattle.host.specs.Flat.{flatMap}
+use Rattle.answers.specs.Flat.{flatMap}
 use borrow.Author.Needs.{needs}
 use Rattle.host.proofs.himzolven_map.Statement.{statement}
 use Rattle.host.proofs.himzolven_map.Tie as tie

@@ -1,6 +1,6 @@
 -- `host::himzolven_read` meets its contract. Assumes nothing.
 use mathlib.Core.Path.{ap, _∙_}
-use Rattle.host.specs.Flat.{flatAnswer}
+use Rattle.answers.specs.Flat.{flatAnswer}
 use borrow.Author.Needs.{needs}
 use Rattle.host.proofs.himzolven_read.Statement.{statement}
 use Rattle.host.proofs.himzolven_read.Tie as tie

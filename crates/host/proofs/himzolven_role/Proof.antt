@@ -1,6 +1,6 @@
 -- `host::himzolven_role` meets its contract. Assumes nothing.
 use mathlib.Core.Path.{ap, _∙_}
-use Rattle.host.specs.Flat.{flatRole}
+use Rattle.answers.specs.Flat.{flatRole}
 use borrow.Author.Needs.{needs}
 use Rattle.host.proofs.himzolven_role.Statement.{statement}
 use Rattle.host.proofs.himzolven_role.Tie as tie

@@ -1,6 +1,6 @@
 -- `host::himzolven_sizes` meets its contract. Assumes nothing.
 use mathlib.Core.Path.{ap, _∙_}
-use Rattle.host.specs.Flat.{flatSizes}
+use Rattle.answers.specs.Flat.{flatSizes}
 use borrow.Author.Needs.{needs}
 use Rattle.host.proofs.himzolven_sizes.Statement.{statement}
 use Rattle.host.proofs.himzolven_sizes.Tie as tie

@@ -1,11 +1,11 @@
--- `host::rebuilt_of` meets its contract. Assumes nothing.
+-- `answers::rebuilt_of` meets its contract. Assumes nothing.
 use mathlib.Core.Path.{sym, ap}
 use Rattle.rebuilding.specs.declared.Rebuilt.{Rebuilt}
 use Rattle.rebuilding.specs.Rebuild.{rebuiltOutcome}
-use Rattle.host.specs.Flat.{flatCount}
+use Rattle.answers.specs.Flat.{flatCount}
 use borrow.Author.Needs.{needs}
-use Rattle.host.proofs.rebuilt_of.Statement.{statement}
-use Rattle.host.proofs.rebuilt_of.Tie as tie
+use Rattle.answers.proofs.rebuilt_of.Statement.{statement}
+use Rattle.answers.proofs.rebuilt_of.Tie as tie
 
 enum-known-x : tie.Need-enum-known-x
 enum-known-x c = search needs

@@ -1,9 +1,9 @@
--- `host::role_of` meets its contract. Assumes nothing.
+-- `answers::role_of` meets its contract. Assumes nothing.
 use mathlib.Core.Path.{sym, ap}
-use Rattle.host.specs.Flat.{flatRoleOf}
+use Rattle.answers.specs.Flat.{flatRoleOf}
 use borrow.Author.Needs.{needs}
-use Rattle.host.proofs.role_of.Statement.{statement}
-use Rattle.host.proofs.role_of.Tie as tie
+use Rattle.answers.proofs.role_of.Statement.{statement}
+use Rattle.answers.proofs.role_of.Tie as tie
 
 enum-known-x : tie.Need-enum-known-x
 enum-known-x c = search needs

@@ -1,11 +1,11 @@
--- `host::answer_of` meets its contract. Assumes nothing.
+-- `answers::answer_of` meets its contract. Assumes nothing.
 use mathlib.Core.Path.{sym, ap}
 use Rattle.refusal.specs.declared.Checked.{Checked}
 use Rattle.refusal.specs.Refusal.{checkedOutcome}
-use Rattle.host.specs.Flat.{flatAnswer}
+use Rattle.answers.specs.Flat.{flatAnswer}
 use borrow.Author.Needs.{needs}
-use Rattle.host.proofs.answer_of.Statement.{statement}
-use Rattle.host.proofs.answer_of.Tie as tie
+use Rattle.answers.proofs.answer_of.Statement.{statement}
+use Rattle.answers.proofs.answer_of.Tie as tie
 
 enum-told : tie.Need-enum-told
 enum-told c = search needs

@@ -8,12 +8,12 @@ use Rattle.layout.specs.declared.Four.{Four}
 use Rattle.finding.specs.declared.Found.{Found}
 use Rattle.cells.specs.declared.Role.{Role}
 use Rattle.cells.specs.declared.Role.the-variants.{User, Outer, Inner}
-use Rattle.host.specs.declared.Answer.{Answer}
-use Rattle.host.specs.declared.SizesAnswer.{SizesAnswer}
-use Rattle.host.specs.declared.MapAnswer.{MapAnswer}
-use Rattle.host.specs.declared.RoleAnswer.{RoleAnswer}
-use Rattle.host.specs.declared.AuditAnswer.{AuditAnswer}
-use Rattle.host.specs.declared.CountAnswer.{CountAnswer}
+use Rattle.answers.specs.declared.Answer.{Answer}
+use Rattle.answers.specs.declared.SizesAnswer.{SizesAnswer}
+use Rattle.answers.specs.declared.MapAnswer.{MapAnswer}
+use Rattle.answers.specs.declared.RoleAnswer.{RoleAnswer}
+use Rattle.answers.specs.declared.AuditAnswer.{AuditAnswer}
+use Rattle.answers.specs.declared.CountAnswer.{CountAnswer}
 
 -- the geometry of four numbers from C
 abbrev pub geometry : (v k g u : ℕ) → Geometry

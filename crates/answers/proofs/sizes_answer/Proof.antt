@@ -1,11 +1,11 @@
--- `host::sizes_answer` meets its contract. Assumes nothing.
+-- `answers::sizes_answer` meets its contract. Assumes nothing.
 use mathlib.Core.Path.{sym, ap}
 use Rattle.sizes.specs.declared.Sized.{Sized}
 use Rattle.sizes.specs.Sizes.{sizedOutcome}
-use Rattle.host.specs.Flat.{flatSizes}
+use Rattle.answers.specs.Flat.{flatSizes}
 use borrow.Author.Needs.{needs}
-use Rattle.host.proofs.sizes_answer.Statement.{statement}
-use Rattle.host.proofs.sizes_answer.Tie as tie
+use Rattle.answers.proofs.sizes_answer.Statement.{statement}
+use Rattle.answers.proofs.sizes_answer.Tie as tie
 
 enum-known-x : tie.Need-enum-known-x
 enum-known-x c = search needs

@@ -1,11 +1,11 @@
--- `host::map_of` meets its contract. Assumes nothing.
+-- `answers::map_of` meets its contract. Assumes nothing.
 use mathlib.Core.Path.{sym, ap}
 use Rattle.address.specs.declared.Mapped.{Mapped}
 use Rattle.address.specs.Address.{mappedOutcome}
-use Rattle.host.specs.Flat.{flatMap}
+use Rattle.answers.specs.Flat.{flatMap}
 use borrow.Author.Needs.{needs}
-use Rattle.host.proofs.map_of.Statement.{statement}
-use Rattle.host.proofs.map_of.Tie as tie
+use Rattle.answers.proofs.map_of.Statement.{statement}
+use Rattle.answers.proofs.map_of.Tie as tie
 
 enum-known-x : tie.Need-enum-known-x
 enum-known-x c = search needs

@@ -1,11 +1,11 @@
--- `host::planned_of` meets its contract. Assumes nothing.
+-- `answers::planned_of` meets its contract. Assumes nothing.
 use mathlib.Core.Path.{sym, ap}
 use Rattle.planning.specs.declared.Planned.{Planned}
 use Rattle.planning.specs.Plan.{plannedOutcome}
-use Rattle.host.specs.Flat.{flatCount}
+use Rattle.answers.specs.Flat.{flatCount}
 use borrow.Author.Needs.{needs}
-use Rattle.host.proofs.planned_of.Statement.{statement}
-use Rattle.host.proofs.planned_of.Tie as tie
+use Rattle.answers.proofs.planned_of.Statement.{statement}
+use Rattle.answers.proofs.planned_of.Tie as tie
 
 enum-known-x : tie.Need-enum-known-x
 enum-known-x c = search needs

@@ -1,11 +1,11 @@
--- `host::located_of` meets its contract. Assumes nothing.
+-- `answers::located_of` meets its contract. Assumes nothing.
 use mathlib.Core.Path.{sym, ap, _∙_}
 use Rattle.address.specs.declared.Located.{Located}
 use Rattle.address.specs.Address.{locatedOutcome}
-use Rattle.host.specs.Flat.{flatRole}
+use Rattle.answers.specs.Flat.{flatRole}
 use borrow.Author.Needs.{needs}
-use Rattle.host.proofs.located_of.Statement.{statement}
-use Rattle.host.proofs.located_of.Tie as tie
+use Rattle.answers.proofs.located_of.Statement.{statement}
+use Rattle.answers.proofs.located_of.Tie as tie
 
 enum-known-x : tie.Need-enum-known-x
 enum-known-x c = search needs

@@ -1,11 +1,11 @@
--- `host::audit_of` meets its contract. Assumes nothing.
+-- `answers::audit_of` meets its contract. Assumes nothing.
 use mathlib.Core.Path.{sym, ap}
 use Rattle.auditing.specs.declared.Audited.{Audited}
 use Rattle.auditing.specs.Auditing.{auditedOutcome}
-use Rattle.host.specs.Flat.{flatAudit}
+use Rattle.answers.specs.Flat.{flatAudit}
 use borrow.Author.Needs.{needs}
-use Rattle.host.proofs.audit_of.Statement.{statement}
-use Rattle.host.proofs.audit_of.Tie as tie
+use Rattle.answers.proofs.audit_of.Statement.{statement}
+use Rattle.answers.proofs.audit_of.Tie as tie
 
 enum-known-x : tie.Need-enum-known-x
 enum-known-x c = search needs
