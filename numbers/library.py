@@ -9,6 +9,7 @@ ROOT = Path(__file__).resolve().parent.parent
 OUT = ROOT / "target/numbers"
 ARCHIVE = ROOT / "target/lib/libhimzolven.a"
 WARNINGS = ["-Wall", "-Wextra", "-Wpedantic", "-Wconversion", "-Werror"]
+PRIMES = (2, 3, 5, 7, 11, 13)
 F = (0, 2, 6, 0, 1, 3, 1, 2, 4, 2, 3, 5, 3, 4, 6, 0, 4, 5, 1, 5, 6)
 
 COUNTS = "disks units parts user outer inner written lost coded read read_coded most most_coded own others idle"
