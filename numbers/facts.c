@@ -20,7 +20,8 @@
 
 #include "himzolven.h"
 
-enum { U = 1, DESIGN_MOST = 91 * 90, DISKS_MOST = 91 * 13, UNITS_MOST = 90 * 13, PLAN_MOST = 3 * 90 * 12 * 10 };
+/* The largest of all sizes that the library takes; the longest plans and designs have k = 2. */
+enum { U = 1, DESIGN_MOST = 91 * 90, DISKS_MOST = 91 * 13, UNITS_MOST = 90 * 13, PLAN_MOST = 3 * 90 * 12 * 2 };
 
 typedef struct {
     uint32_t v, k, g;

@@ -42,6 +42,10 @@ class Part:
         """The units of one disk in this tuple, as bits."""
         return sum(1 << ((position * self.g + row) * self.g + column) for row in range(self.g))
 
+    def units_of_plan(self):
+        """The rest of each lost unit's outer set, or of its inner set where it has no other."""
+        return {unit for lost in self.lost for unit in self.sets[min(self.homes[lost])]} - set(self.lost)
+
     def equations(self, unit, most):
         """What the equations of a lost unit read, as bits: at most `most` units, and not all that another equation reads."""
         found = []

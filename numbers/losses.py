@@ -57,7 +57,7 @@ def agreed(proved, peeled):
 def survival(archive):
     counts = agreed(answers("survival", archive), answers("peel", archive))
     most = max(n for n, count in enumerate(counts) if count)
-    said = ["all (theorem)"] * 4 + ["some patterns"] * (most - 3) + ["nothing"] * (DISKS - most)
+    said = ["all (theorem)"] * 4 + ["some patterns"] * (most - 3) + ["no figure"] * (DISKS - most)
     ends = [(n, n) for n in range(most + 2)] + [(most + 2, DISKS)]
     rows = []
     for low, high in ends:

@@ -7,12 +7,13 @@ from tables import table
 
 HELD = {7: 3, 13: 4, 21: 5, 31: 6, 57: 8, 73: 9, 91: 10}
 SMALL, LARGE = (7, 13, 21, 31), (57, 73, 91)
+GRAPH = (11, 2, 11, complete(11))
 OI = {
     "OI(7,3,1,3)": (7, 3, 3, ()),
     "OI(7,3,1,7)": (7, 3, 7, ()),
     "OI(13,4,1,11)": (13, 4, 11, ()),
     "OI(21,5,1,11)": (21, 5, 11, ()),
-    "OICG(11,11)": (11, 2, 11, complete(11)),
+    "OICG(11,11)": GRAPH,
 }
 
 
@@ -78,9 +79,8 @@ def read_from(archive):
     return table(heads, rows)
 
 
-def held(archive, groups):
-    """Held designs, with every g that they allow."""
-    geometries = held_at(groups).values()
+def both_counts(archive, geometries):
+    """The measures as 000 counts, for the whole disk, and the overhead without and with inner parities."""
     heads = ["v", "k", "g", "disks", "speed-up", "read ratio", "lower bound", "disks above it"]
     heads += ["whole disk: speed-up", "read ratio", "lower bound", "overhead of the outer layer", "with inner parity"]
     rows = []
