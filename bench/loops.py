@@ -8,11 +8,11 @@ CALLS = ("format", "read", "write", "audit", "rebuild")
 CASE = (7, 3, 3)
 SIZES = (127, 128, 4095, 4096)
 ABOUT = f"""
-By disassembly of the linked archive, with the instructions that one call ran on F, g = 3 (callgrind); the rebuild is of 2+1 disks.
-Listed are the loops that ran, have no packed access and take 8 bytes or fewer at a time: those whose turns depend on u, and those
-that take single bytes. A tail turns as often at u = 4095 as at {SIZES[0]} and at 4096 as at {SIZES[1]}: whole blocks add no turn.
-What is the same at each u belongs to the check of the design, which stops at the first fault, to the marks, and to the flags by
-which a rebuild decides. Calls are those to the C library, with how often each is made.
+By disassembly of the linked archive, with the instructions that one call ran on F, g = 3 (callgrind); the rebuild is of 2+1
+disks. Listed are the loops that ran, have no packed access and take 8 bytes or fewer at a time: those whose turns depend on u,
+and those that take single bytes. A tail turns as often at u = 4095 as at {SIZES[0]} and at 4096 as at {SIZES[1]}: whole blocks
+add no turn. What is the same at each u belongs to the check of the design, which stops at the first fault, to the marks, and to
+the flags by which a rebuild decides. Calls are those to the C library, with how often each is made.
 """
 PACKED = "No loop grows with u: every byte loop is packed but for its tail."
 WIDTH = {"BYTE": 1, "WORD": 2, "DWORD": 4, "QWORD": 8, "XMMWORD": 16, "YMMWORD": 32, "ZMMWORD": 64}
@@ -98,8 +98,8 @@ def moved(code, counts, least, most):
 
 
 def handed(code, counts):
-    """The calls of the C library's functions, and how many. The instruction before a call is counted: the call itself gets some of
-    what its first run costs."""
+    """The calls of the C library's functions, and how many. The instruction before a call is counted: the call itself gets some
+    of what its first run costs."""
     made = {}
     for steps in code.values():
         for (before, _), (_, text) in zip(steps, steps[1:]):

@@ -58,7 +58,8 @@ static size_t entry_of(const uint16_t *design, uint32_t group, uint32_t part) {
         if (design[e] == group && seen++ == part) return e;
 }
 
-himzolven_map_answer plain_map(uint32_t v, uint32_t k, uint32_t g, uint32_t u, const uint16_t *design, size_t length, uint32_t n) {
+himzolven_map_answer plain_map(
+    uint32_t v, uint32_t k, uint32_t g, uint32_t u, const uint16_t *design, size_t length, uint32_t n) {
     himzolven_map_answer r;
     memset(&r, 0, sizeof r);
     himzolven_answer a = plain_sizes_check(v, k, g, u, design, length);
@@ -83,7 +84,8 @@ himzolven_map_answer plain_map(uint32_t v, uint32_t k, uint32_t g, uint32_t u, c
     return r;
 }
 
-himzolven_role_answer plain_role(uint32_t v, uint32_t k, uint32_t g, uint32_t u, const uint16_t *design, size_t length, uint32_t disk, uint32_t unit) {
+himzolven_role_answer plain_role(
+    uint32_t v, uint32_t k, uint32_t g, uint32_t u, const uint16_t *design, size_t length, uint32_t disk, uint32_t unit) {
     himzolven_role_answer r;
     memset(&r, 0, sizeof r);
     himzolven_answer a = plain_sizes_check(v, k, g, u, design, length);
@@ -120,7 +122,9 @@ static uint32_t *put(uint32_t *to, uint32_t unit, uint32_t disk, uint32_t source
     return to + 3;
 }
 
-himzolven_count_answer plain_plan(uint32_t v, uint32_t k, uint32_t g, uint32_t u, const uint16_t *design, size_t length, uint32_t disk, uint32_t *list, size_t list_length) {
+himzolven_count_answer plain_plan(
+    uint32_t v, uint32_t k, uint32_t g, uint32_t u, const uint16_t *design, size_t length, uint32_t disk, uint32_t *list,
+    size_t list_length) {
     himzolven_answer a = plain_sizes_check(v, k, g, u, design, length);
     uint32_t r = a.refusal == 0 ? (v - 1) / (k - 1) : 0, n = r * (g - 1) * k;
     if (a.refusal == 0 && disk >= v * g) a = answer(9, 0);

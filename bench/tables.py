@@ -1,4 +1,4 @@
-"""Text of the tables."""
+"""Text of the tables, and the lines that the programs print."""
 
 
 def table(heads, rows):
@@ -9,3 +9,12 @@ def table(heads, rows):
 def prose(text):
     """A paragraph on one line."""
     return " ".join(text.split())
+
+
+def shown(x, form="{:.2f}"):
+    return "" if x is None else form.format(x)
+
+
+def figures(text):
+    """Lines "call where name value" as a dictionary."""
+    return {tuple(words[:3]): float(words[3]) for words in map(str.split, text.splitlines())}

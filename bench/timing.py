@@ -1,28 +1,28 @@
-"""Times the byte calls beside C in one run: builds target/bytes, runs it for each case, and makes the tables."""
+"""Times the byte calls beside C in one run: runs target/bytes for each case, and makes the tables."""
 import re
-import subprocess
 from pathlib import Path
 
-from tables import prose, table
+from tables import figures, prose, shown, table
+from targets import Target
 
-CASES = [(v, k, g, u) for v, k, g in ((7, 3, 3), (13, 4, 11), (21, 5, 11), (91, 10, 11)) for u in (512, 4096)]
-LARGE = [(91, 10, 13, u) for u in (512, 4096)]  # the rebuild alone
+SIZES = (512, 4096)
+CASES = [(v, k, g, u) for v, k, g in ((7, 3, 3), (13, 4, 11), (21, 5, 11), (91, 10, 11)) for u in SIZES]
+LARGE = [(91, 10, 13, u) for u in SIZES]  # the rebuild alone
 LOSSES = ("one", "three", "2+1")
 ROUNDS = 7
-WARNINGS = ("-std=c11", "-Wall", "-Wextra", "-Werror", "-Iinclude")
 C = {"passes": "same passes", "fused": "fused C", "isal": "ISA-L"}
 C_COPIED = {"passes": "same passes", "copied": "first copied", "fused": "fused C", "isal": "ISA-L"}
 
 ABOUT = f"""
 Ratios are C time over library time from one run: above 1 the library is the faster. "Same passes": one source a pass through a
-buffer, or into the restored unit; "fused": all units in one loop (`bench/contest.c`, gcc -O3, SSE2). From memory: arrays side by
-side, together larger than the last cache, visited in turn. Hot: one unit again and again, or one array where it fits the second
-cache. The contestants run in turn, batch by batch; the figure is the median batch of a round, in the best of {ROUNDS} rounds, in
-time of the thread. Before any timing the contestants are compared: equal arrays after equal writes and after equal losses, equal
-audits after flipped bytes. A share is the time that the bytes take at the memory limit over the call's time: for a write 4u bytes
-copied (it can pass 1: memcpy reads what it overwrites), for an audit the array read once (most of it is in two sets), for a rebuild
-each source on a present disk read once and each restored unit set once. Empty: not measured, or less than a twentieth of what was
-taken off.
+buffer, or into the restored unit; "fused": all units in one loop (`bench/contest.c`, gcc -O3, SSE2). From memory: arrays side
+by side, together larger than the last cache, visited in turn. Hot: one unit again and again, or one array where it fits the
+second cache. The contestants run in turn, batch by batch; the figure is the median batch of a round, in the best of {ROUNDS}
+rounds, in time of the thread. Before any timing the contestants are compared: equal arrays after equal writes and after equal
+losses, equal audits after flipped bytes. A share is the time that the bytes take at the memory limit over the call's time: for
+a write 4u bytes copied (it can pass 1: memcpy reads what it overwrites), for an audit the array read once (most of it is in two
+sets), for a rebuild each source on a present disk read once and each restored unit set once. Empty: not measured, or less than
+a twentieth of what was taken off.
 """
 WRITE = """
 Write of whole units at scattered user units, ns: an accepted write less the same call refused by the mark of its last disk. The C
@@ -33,57 +33,53 @@ Audit of a formatted array, us, the design check included. C is given the places
 cleared, then every unit of a set is XORed into it; "first copied": the first unit is copied in instead, a pass fewer.
 """
 REBUILD = """
-Rebuild of one disk, of three disks of one group, and of two of one group and one of another, us, the design check included. C is
-given the places and checks nothing; it has the same two phases: first the passes over the flags of every tuple that a lost disk
-touches, then those passes again, with the bytes by their log. (The library leaves the first
-phase out where at most three disks are lost, as here.) Same passes, as of the audit: the unit is cleared, then every source is
-XORed into it; "first copied": the first source is copied over it instead, a pass fewer. From memory: a rebuild touches a small part of an array, so what it touches is flushed out of all caches, and its
-pages out of those translated, before it is timed. Hot: what it touches fits the second cache.
+Rebuild of one disk, of three disks of one group, and of two of one group and one of another, us, the design check included. C
+is given the places and checks nothing; it has the same two phases: first the passes over the flags of every tuple that a lost
+disk touches, then those passes again, with the bytes by their log. (The library leaves the first phase out where at most three
+disks are lost, as here.) Same passes, as of the audit: the unit is cleared, then every source is XORed into it; "first copied":
+the first source is copied over it instead, a pass fewer. From memory: a rebuild touches a small part of an array, so what it
+touches is flushed out of all caches, and its pages out of those translated, before it is timed. Hot: what it touches fits the
+second cache.
+"""
+SHORT = """
+Time of the other over time of the library, from memory: the lowest and the highest over the geometries. Above 1 the library is
+the faster.
 """
 FORMAT = "Format, us, the check included, beside memset of array and marks, which checks nothing."
 READ = "Read of whole units, ns, less the same call refused by the mark of the data disk, beside memcpy of the unit."
 LIMITS = "Memory limits, GB/s: what memcpy copies, memset sets and a loop reads of one array from memory."
 
 
-def has_isal(say):
-    try:
-        say("gcc", "-E", "-include", "isa-l.h", "-x", "c", "/dev/null")
-    except subprocess.CalledProcessError:
-        return False
-    return True
-
-
-def build(say, archive):
-    """The C that is compared gets -O3 and SSE2, as the library has; not position independent, so that addresses are its own."""
-    say("gcc", "-O3", "-msse2", *WARNINGS, "-c", "-o", "target/contest.o", "bench/contest.c")
-    isal = []
-    if has_isal(say):
-        say("gcc", "-O3", *WARNINGS, "-c", "-o", "target/isal.o", "bench/isal.c")
-        isal = ["-DWITH_ISAL", "target/isal.o", "-lisal"]
-    flags = ("-O2", "-no-pie", f"-DROUNDS={ROUNDS}", *WARNINGS)
-    say("gcc", *flags, "-o", "target/bytes", "bench/bytes.c", "bench/stack.c", "target/contest.o", archive, *isal)
-
-
-def fits(case):
-    """Whether there is memory for two arrays, which are compared, with some to spare."""
+def fits(case, arrays=2, pools=1):
+    """Whether there is memory for a program's pools: each has so many arrays, and more than the last cache."""
     v, k, g, u = case
+    pool = max(arrays * v * g * (v - 1) // (k - 1) * g * u, 1.13 * last_cache(), 2**28)
     free = re.search(r"^MemAvailable:\s+(\d+) kB", Path("/proc/meminfo").read_text(), re.M)
-    return not free or 2.2 * v * g * (v - 1) // (k - 1) * g * u < 1024 * int(free[1])
+    return not free or 1.1 * pools * pool < 1024 * int(free[1])
 
 
-def shown(x, form="{:.2f}"):
-    return "" if x is None else form.format(x)
+def last_cache():
+    """In bytes, as Linux tells it; 0 where it doesn't."""
+    told = Path("/sys/devices/system/cpu/cpu0/cache/index3/size")
+    return 1024 * int(told.read_text().strip().rstrip("K")) if told.exists() else 0
+
+
+# of the calls but rebuild: the bytes that must move, the limit, and whether the refused call is taken off
+MOVED = {
+    "write": (lambda c: 4 * c.u, "memcpy", True),
+    "read": (lambda c: c.u, "read", True),
+    "audit": (lambda c: c.bytes, "read", False),
+    "format": (lambda c: c.bytes, "memset", False),
+}
 
 
 class Case:
     """One case's figures: ns of each contestant by call, where and name, the bytes of an array and how many there were."""
 
     def __init__(self, say, case):
-        self.u, self.large, self.told = case[3], case in LARGE, {}
+        self.u, self.large = case[3], case in LARGE
         self.head = [case[0], case[2], case[3]]
-        for line in say("target/bytes", "rebuild" if case in LARGE else "time", *case).splitlines():
-            call, where, name, value = line.split()
-            self.told[call, where, name] = float(value)
+        self.told = figures(say("target/bytes", "rebuild" if case in LARGE else "time", *case))
         self.bytes, self.arrays = self.told["bytes", "-", "-"], self.told["arrays", "-", "-"]
 
     def ns(self, call, where, name="library", less=False):
@@ -104,9 +100,11 @@ class Case:
         """Bytes a ns of a memory limit. memcpy copies one half of an array onto the other."""
         return self.bytes / (2 if name == "memcpy" else 1) / self.told["limit", "memory", name]
 
-    def share(self, call, moved, limit, less=False):
+    def share(self, call):
+        """Of the memory limit: the time that the bytes take there over the call's."""
+        moved, limit, less = MOVED[call]
         own = self.ns(call, "memory", "library", less)
-        return shown(moved / self.rate(limit) / own if own else None)
+        return moved(self) / self.rate(limit) / own if own else None
 
     def at(self):
         return "v = {}, g = {}, u = {}".format(*self.head)
@@ -119,10 +117,10 @@ class Loss(Case):
         self.__dict__.update(case.__dict__)
         self.lost, self.head = lost, case.head + [lost]
 
-    def share_of_both(self):
+    def share(self, call):
         """Of what is read at the rate of reading, and what is restored at memset's."""
         read, written = (self.told["moved", self.lost, n] for n in ("read", "written"))
-        return shown((read / self.rate("read") + written / self.rate("memset")) / self.ns(self.lost, "memory"))
+        return (read / self.rate("read") + written / self.rate("memset")) / self.ns(self.lost, "memory")
 
     def at(self):
         return f"{super().at()}, lost {self.lost}"
@@ -130,29 +128,29 @@ class Loss(Case):
 
 def write_row(c):
     row = [shown(c.ns("write", "memory", n, n == "library"), "{:.0f}") for n in ("refused", "library")]
-    row += c.ratios("write", "memory", C, True) + [c.share("write", 4 * c.u, "memcpy", True)]
+    row += c.ratios("write", "memory", C, True) + [shown(c.share("write"))]
     return row + [shown(c.ns("write", "hot", "library", True), "{:.0f}")] + c.ratios("write", "hot", C, True)
 
 
 def audit_row(c):
     row = [f"{c.ns('audit', 'memory', n) / 1000:.1f}" for n in ("library", "refused")]
-    return row + c.ratios("audit", "memory", C_COPIED) + [c.share("audit", c.bytes, "read")] + c.ratios("audit", "hot", C_COPIED)
+    return row + c.ratios("audit", "memory", C_COPIED) + [shown(c.share("audit"))] + c.ratios("audit", "hot", C_COPIED)
 
 
 def rebuild_row(c):
     row = [f"{c.ns(c.lost, 'memory', n) / 1000:.1f}" for n in ("library", "refused")]
-    return row + c.ratios(c.lost, "memory", C_COPIED) + [c.share_of_both()] + c.ratios(c.lost, "hot", C_COPIED)
+    return row + c.ratios(c.lost, "memory", C_COPIED) + [shown(c.share(c.lost))] + c.ratios(c.lost, "hot", C_COPIED)
 
 
 def format_row(c):
     row = [f"{c.ns('format', 'memory', n) / 1000:.1f}" for n in ("library", "refused")]
-    row += [shown(c.ratio("format", "memory", "memset")), c.share("format", c.bytes, "memset")]
+    row += [shown(c.ratio("format", "memory", "memset")), shown(c.share("format"))]
     return row + [shown(c.ratio("format", "hot", "memset"))]
 
 
 def read_row(c):
     row = [shown(c.ns("read", "memory", n, n == "library"), "{:.0f}") for n in ("refused", "library")]
-    row += [shown(c.ratio("read", "memory", "memcpy", True)), c.share("read", c.u, "read", True)]
+    row += [shown(c.ratio("read", "memory", "memcpy", True)), shown(c.share("read"))]
     return row + [shown(c.ns("read", "hot", "library", True), "{:.0f}"), shown(c.ratio("read", "hot", "memcpy", True))]
 
 
@@ -165,37 +163,119 @@ def part(about, heads, row, cases):
     return ["", prose(about), "", *table(first + heads, [c.head + row(c) for c in cases])]
 
 
-def verdict(what, least, got):
-    """What was asked for, the lowest, and where it is missed."""
-    missed = [f"{c.at()}: " + (shown(r) or "not told") for c, r in got if not r or r < least]
-    lowest = min((r for _, r in got if r), default=0)
-    return f"- {what}: at least {least} asked, lowest {lowest:.2f}" + (f"; missed at {'; '.join(missed)}." if missed else ".")
+# of each target for a share of the memory limit: the call, its losses where it is the rebuild, u, and the least share
+SHARES = [
+    ("rebuild of one disk", ["one"], 4096, 0.6),
+    ("rebuild of three disks of one group", ["three"], 4096, 0.7),
+    ("write", None, 4096, 0.8),
+    ("audit", None, 4096, 0.5),
+    ("format", None, 4096, 0.5),
+    ("rebuild", LOSSES, 512, 0.25),
+    ("audit", None, 512, 0.3),
+]
+SAME = "In brackets fused C, which has one pass and registers of 16 bytes, as the library has."
+WIDE = "ISA-L may take registers of {}, the library those of 16 bytes that every x86-64 has. " + SAME
+COPY = "The C library may take registers of {}, Himzolven those of 16 bytes that every x86-64 has."
 
 
-def verdicts(cases, losses):
-    def got(call, name, less=False, sizes=(512, 4096)):
-        return [(c, c.ratio(call, "memory", name, less)) for c in cases if c.u in sizes]
+def widest():
+    """The widest registers of the processor, as its flags tell."""
+    flags = Path("/proc/cpuinfo").read_text()
+    return next((f"{n} bytes ({name})" for flag, n, name in (("avx512f", 64, "AVX-512"), ("avx2", 32, "AVX2")) if flag in flags),
+                "16 bytes")
 
-    def rebuilt(name, sizes=(512, 4096)):
-        return [(c, c.ratio(c.lost, "memory", name)) for c in losses if c.u in sizes]
 
-    out = [verdict("write from memory, beside C with the same passes", 1.2, got("write", "passes", True))]
-    out += [verdict("audit from memory, beside C with the same passes", 1.2, got("audit", "passes"))]
-    out += [verdict("rebuild from memory, beside C with the same passes", 1.2, rebuilt("passes"))]
-    out += [verdict("format from memory, beside memset", 0.9, got("format", "memset"))]
-    if ("write", "memory", "isal") in cases[0].told:
-        out += [verdict("write from memory at u = 4096, beside ISA-L", 0.9, got("write", "isal", True, [4096]))]
-        out += [verdict("audit from memory at u = 4096, beside ISA-L", 0.9, got("audit", "isal", sizes=[4096]))]
-        out += [verdict("rebuild from memory at u = 4096, beside ISA-L", 0.9, rebuilt("isal", [4096]))]
+class Found:
+    """What was found of one call, by place; a rebuild's places have a loss."""
+
+    def __init__(self, call, places, sizes=SIZES, where="memory"):
+        self.call, self.where, self.places = call, where, [c for c in places if c.u in sizes]
+        self.less = call in ("write", "read")
+
+    def ratio(self, c, name):
+        return c.ratio(getattr(c, "lost", self.call), self.where, name, self.less)
+
+    def beside(self, name):
+        return [(c, self.ratio(c, name)) for c in self.places]
+
+    def shares(self):
+        return [(c, c.share(self.call)) for c in self.places]
+
+    def fused(self, c):
+        return shown(self.ratio(c, "fused")) or "not told"
+
+    def by_u(self, name):
+        """The ratios that are told, for each u."""
+        return {u: [x for c, x in self.beside(name) if x and c.u == u] for u in SIZES}
+
+    def told(self, name):
+        """From the lowest to the highest."""
+        every = [x for _, x in self.beside(name) if x]
+        return f"{min(every):.2f} to {max(every):.2f}" if every else ""
+
+
+def targets(cases, losses):
+    out = []
+    three = (("write", cases), ("audit", cases), ("rebuild", losses))
+    for where, name, least in (("memory", "from memory", 1.2), ("hot", "hot", 0.9)):
+        for call, places in three:
+            f = Found(call, places, where=where)
+            out.append(Target(f"{call} {name}, beside C with the same passes", least, f.beside("passes"), SAME, f.fused))
+    for call, other in (("format", "memset"), ("read", "memcpy")):
+        text = f"{call} from memory, beside {other}"
+        out.append(Target(text, 0.9, Found(call, cases).beside(other), COPY.format(widest())))
+    for call, places in three:
+        f = Found(call, places, [4096])
+        text = f"{call} from memory at u = 4096, beside ISA-L"
+        out.append(Target(text, 0.9, f.beside("isal"), WIDE.format(widest()), f.fused))
+    for call, lost, u, least in SHARES:
+        f = Found(call, [c for c in losses if c.lost in lost] if lost else cases, [u])
+        out.append(Target(f"{call} at u = {u}, share of the memory limit", least, f.shares(), SAME, f.fused))
     return out
+
+
+def ratio_groups(cases, losses):
+    """What the plot of the ratios shows, with what is asked for each u."""
+    three = [(name, Found(call, places)) for name, call, places in
+             (("write", "write", cases), ("audit", "audit", cases), ("rebuild of one to three disks", "rebuild", losses))]
+    others = (("format, beside memset", "format", "memset"), ("read, beside memcpy", "read", "memcpy"))
+    return [
+        ("Beside C with the same passes", [(name, f.by_u("passes"), {512: 1.2, 4096: 1.2}) for name, f in three]),
+        ("Beside C with all units in one loop", [(name, f.by_u("fused"), {}) for name, f in three]),
+        ("Beside ISA-L's XOR kernels", [(name, f.by_u("isal"), {4096: 0.9}) for name, f in three]),
+        ("Beside the C library", [(name, Found(call, cases).by_u(to), {512: 0.9, 4096: 0.9}) for name, call, to in others]),
+    ]
+
+
+def summary(cases, losses):
+    """One row a call: the lowest and the highest ratio."""
+    rows = []
+    for name, call, places, plain in (("write", "write", cases, "passes"), ("audit", "audit", cases, "passes"),
+                                      ("rebuild of one to three disks", "rebuild", losses, "passes"),
+                                      ("format, beside memset", "format", cases, "memset"),
+                                      ("read, beside memcpy", "read", cases, "memcpy")):
+        rows.append([name, Found(call, places).told(plain), Found(call, places).told("fused"),
+                     Found(call, places, [4096]).told("isal")])
+    return [prose(SHORT), "", *table(["call", "C with the same passes", "C with one pass", "ISA-L, u = 4096"], rows)]
+
+
+def audit_rates(cases):
+    """GB/s of the array at the fastest geometry: from memory, and hot."""
+    return {name: max((c.bytes / c.ns("audit", where) for c in cases if c.ns("audit", where)), default=None)
+            for name, where in (("from memory", "memory"), ("hot", "hot"))}
+
+
+def split(told):
+    """The cases with every call, and all with each loss."""
+    return [x for x in told if not x.large], [Loss(x, lost) for x in told for lost in LOSSES]
 
 
 def report(told):
     c, d = list(C.values()), list(C_COPIED.values())
-    cases, losses = [x for x in told if not x.large], [Loss(x, lost) for x in told for lost in LOSSES]
-    out = [prose(ABOUT), ""] + verdicts(cases, losses)
+    cases, losses = split(told)
+    out = [prose(ABOUT)]
     if len(told) < len(CASES + LARGE):
-        out += ["- The largest arrays are left out: they need more memory than there was."]
+        out += ["", "The largest arrays are left out: they need more memory than there was."]
     out += part(WRITE, ["refused call", "write"] + c + ["share of memcpy", "hot: write"] + c, write_row, cases)
     out += part(AUDIT, ["audit", "check in it"] + d + ["share of read", "hot: " + d[0]] + d[1:], audit_row, cases)
     out += part(REBUILD, ["rebuild", "check in it"] + d + ["share of the limit", "hot: " + d[0]] + d[1:], rebuild_row, losses)
