@@ -1,4 +1,4 @@
-"""Builds the programs of the benchmark under target/, and installs the peers that can be had."""
+"""Builds the programs of the benchmark under target/, and installs what they need and can be had."""
 import os
 import shutil
 import subprocess
@@ -6,7 +6,6 @@ import subprocess
 import timing
 
 FLAGS = ("-std=c11", "-Wall", "-Wextra", "-Wpedantic", "-Wconversion", "-Werror", "-Iinclude", f"-DROUNDS={timing.ROUNDS}")
-PACKAGES = ("libisal-dev", "snapraid")
 # The C that is compared gets -O3 and SSE2, as the library has.
 OBJECTS = {
     "contest": ("-O3", "-msse2"), "plain": ("-O3",), "isal": ("-O3",), "race": ("-O2",), "arrays": ("-O2",), "stack": ("-O2",),
@@ -26,16 +25,24 @@ def has_isal(say):
     return True
 
 
+def missing(say):
+    """Packages that are not there."""
+    there = {"libisal-dev": has_isal(say), "snapraid": shutil.which("snapraid"), "valgrind": shutil.which("valgrind")}
+    return [package for package, found in there.items() if not found]
+
+
 def install(say, tell):
-    """The peers' packages, where they are missing; goes on without what can't be had."""
-    if (has_isal(say) and shutil.which("snapraid")) or not shutil.which("apt-get"):
+    """As root, what is missing; goes on without what can't be had."""
+    wanted = missing(say)
+    if wanted and (os.geteuid() != 0 or not shutil.which("apt-get")):
+        tell(f"missing: {', '.join(wanted)}; as root on Debian this script installs them")
         return
-    tell(f"installing {' and '.join(PACKAGES)} (apt-get install)")
-    env = {**os.environ, "DEBIAN_FRONTEND": "noninteractive"}
-    for package in PACKAGES:
+    for package in wanted:
+        tell(f"apt-get install {package} ..")
+        env = {**os.environ, "DEBIAN_FRONTEND": "noninteractive"}
         done = subprocess.run(["apt-get", "install", "-y", "-q", package], capture_output=True, text=True, env=env)
         if done.returncode != 0:
-            tell(f"{package} can't be installed; its figures are left out\n{done.stderr.strip()}")
+            tell(f"{package} can't be installed\n{done.stderr.strip()}")
 
 
 def build(say, archive):

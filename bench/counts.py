@@ -2,7 +2,6 @@
 
 callgrind tells what target/calls spends in each function that it calls, so one run counts every call. Counts are the same
 whatever else the machine does."""
-import re
 import subprocess
 
 import designs
@@ -17,13 +16,14 @@ STACKED = CALLS + ("sizes", "fill")
 COUNT = 100
 ABOUT = """
 Instructions of one call, proved and in plain C (`bench/plain.c`, gcc -O3), counted by callgrind. Each call checks the design
-anew, so a map's count holds a check's. All answers are compared while they are counted, and the plans of all disks before. Of the
-sizes and the fill only the stack is measured. (At k = 2, the complete graph, the list has not the length of the held design, so
-fill refuses there.)
+anew, so a map's count holds a check's. All answers are compared while they are counted, and the plans of all disks besides. Of
+the sizes and the fill only the stack is measured. (At k = 2, the complete graph, the list has not the length of the held
+design, so fill refuses there.)
 """
 GROWTH = """
 Instructions as the list grows, g = 11: of the check, and of the map, the way back and the plan less a check; in brackets those
-for each added entry of the list, from the row above. A check marks every pair, (k-1)/2 for each entry.
+for each added entry of the list, from the row above. A check marks every pair, (k-1)/2 for each entry. Last, the plan's for
+each of its r parts and each entry.
 """
 
 
@@ -36,8 +36,13 @@ def counted(root, case, u=512):
          "target/calls", "count", *map(str, (v, k, g, u, COUNT)), str(designs.written(root, v, k))],
         cwd=root, check=True, capture_output=True, text=True,
     )
+    return spent(out.read_text())
+
+
+def spent(text):
+    """Of what callgrind wrote: instructions of one call that a function count_.. makes, all below it included."""
     caller, callee, sums, calls = "", "", {}, 0
-    for line in out.read_text().splitlines():
+    for line in text.splitlines():
         key, _, value = line.partition("=")
         if key in ("fn", "cfn"):
             caller, callee = (value, "") if key == "fn" else (caller, value)
@@ -78,21 +83,20 @@ class Counts:
             for call in STACKED[len(CALLS):]:
                 yield [*case, call, "", "", "", stack[call]]
 
-    def series(self, k, call):
-        """(entries of the list, instructions), less the check's for the others."""
-        out = []
-        for (v, each, _), told in self.growing.items():
-            if each == k:
-                less = told["himzolven_check"] if call != "check" else 0
-                out.append((designs.entries(v, k), told[f"himzolven_{call}"] - less))
-        return out
+    def series(self, k, call, less=False):
+        """(entries of the list, instructions); with `less`, a check is taken off the other calls."""
+        off = "himzolven_check" if less and call != "check" else None
+        return [(designs.entries(v, k), told[f"himzolven_{call}"] - told.get(off, 0))
+                for (v, each, _), told in self.growing.items() if each == k]
 
     def growth_rows(self):
         for k in (2, 3):
-            columns = [self.series(k, call) for call in CALLS]
+            columns = [self.series(k, call, less=True) for call in CALLS]
             sizes = [v for v, each, _ in self.growing if each == k]
             for n, v in enumerate(sizes):
-                yield [k, v, columns[0][n][0]] + [f"{c[n][1]:.0f}" + (f" ({slope(c, n):.1f})" if n else "") for c in columns]
+                row = [f"{c[n][1]:.0f}" + (f" ({slope(c, n):.1f})" if n else "") for c in columns]
+                entries, plan = columns[-1][n]
+                yield [k, v, entries, *row, f"{plan / entries / ((v - 1) / (k - 1)):.1f}"]
 
     def targets(self):
         first = [(Place("v = {}, k = {}, g = {}".format(*case)), self.ratio(case, "check")) for case in CASES]
@@ -109,15 +113,12 @@ class Counts:
         ]
 
     def steepening(self, k, call):
-        points = self.whole(k, call)
+        points = self.series(k, call)
         return slope(points, len(points) - 1) / slope(points, 1)
 
     def curves(self):
         """For the plot: each call by name, at k = 2 and 3."""
-        return {"way back" if call == "role" else call: [self.series(k, call) for k in (2, 3)] for call in CALLS}
-
-    def whole(self, k, call):
-        return [(designs.entries(v, each), told[f"himzolven_{call}"]) for (v, each, _), told in self.growing.items() if each == k]
+        return {"way back" if call == "role" else call: [self.series(k, call, less=True) for k in (2, 3)] for call in CALLS}
 
     def other_sizes(self):
         here = self.growing[31, 3, 11]["himzolven_map"]
@@ -126,7 +127,7 @@ class Counts:
 
     def report(self):
         heads = ["v", "k", "g", "call", "proved", "plain C", "ratio", "stack of the proved call, bytes"]
-        grown = ["k", "v", "entries", "check", "map", "way back", "plan"]
+        grown = ["k", "v", "entries", "check", "map", "way back", "plan", "plan / (r · entries)"]
         return [prose(ABOUT), "", *table(heads, self.rows()), "", prose(GROWTH), "", *table(grown, self.growth_rows())]
 
 

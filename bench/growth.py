@@ -12,14 +12,18 @@ SERIES = {
     "u": [(31, 6, 11, u) for u in (64, 128, 256, 512, 1024, 2048, 4096)],
 }
 FLAT = 1.25
-CHECK = "In brackets the design check's share of the time: it grows with the list, a disk with its parts."
-ABOUT = """
-From memory, the library alone; what grows stands at the left. The designs are the held ones, complete graphs (k = 2), triple
-systems (k = 3) and difference families (`bench/designs.py`). The series of v is run twice, and the faster counts. Rebuild of
-one disk, flushed as above: ns for each byte restored, the design check in it, the bytes read for each byte restored, and ns for
-each byte that is read or restored. Write: ns of a whole unit less the same call refused, and that refused call (check and map).
-Audit: ns for each byte of the array, check included. Before any timing the lost disk of a consistent array comes back as it
-was, and its audit finds nothing.
+TIMES = 3  # that the series of v is run
+CAUSE = """
+In brackets the design check's share of the time (it grows with the list, a disk with its parts), and fused C, which checks
+nothing, over its own lowest.
+"""
+ABOUT = f"""
+From memory; what grows stands at the left. The designs are the held ones, complete graphs (k = 2), triple systems (k = 3) and
+difference families (`bench/designs.py`). The series of v is run {TIMES} times, and the fastest rebuild counts. Rebuild of one
+disk, flushed as above: ns for each byte restored, the design check in it, fused C's which checks nothing, the bytes read for
+each byte restored, and ns for each byte that is read or restored. Write: ns of a whole unit less the same call refused, and
+that refused call (check and map). Audit: ns for each byte of the array, check included. Before any timing the lost disk of a
+consistent array comes back as it was, and its audit finds nothing.
 """
 
 
@@ -33,11 +37,8 @@ class Point(timing.Case):
         self.bytes = self.told["bytes", "-", "-"]
         self.read, self.restored = (self.told["moved", "one", n] for n in ("read", "written"))
 
-    def per_byte(self):
-        return self.ns("one", "memory") / self.restored
-
-    def check_share(self):
-        return shown(self.ns("one", "memory", "refused") / self.ns("one", "memory"))
+    def per_byte(self, name="library"):
+        return self.ns("one", "memory", name) / self.restored
 
     def at(self):
         return "v = {}, k = {}, g = {}, u = {}".format(*self.case)
@@ -45,13 +46,14 @@ class Point(timing.Case):
     def row(self):
         whole, check = (self.ns("one", "memory", n) for n in ("library", "refused"))
         row = [*self.case, f"{self.bytes / 1e6:.1f}", f"{self.per_byte():.3f}", f"{check / self.restored:.3f}"]
+        row += [f"{self.per_byte('fused'):.3f}"]
         row += [f"{self.read / self.restored:.2f}", f"{whole / (self.read + self.restored):.3f}"]
         row += [shown(self.ns("write", "memory", n, n == "library"), "{:.0f}") for n in ("library", "refused")]
         return row + [f"{self.ns('audit', 'memory') / self.bytes:.3f}"]
 
 
 def measured(say, root, tell):
-    """The points of each series. That of v, on which a target hangs, is run twice, and the faster rebuild counts."""
+    """The points of each series. That of v, on which a target hangs, is run again, and the fastest rebuild counts."""
     out = {grows: [] for grows in SERIES}
     for grows, case in [(grows, case) for grows, cases in SERIES.items() for case in cases]:
         tell("growth: v = {}, k = {}, g = {}, u = {} ..".format(*case))
@@ -59,29 +61,38 @@ def measured(say, root, tell):
             out[grows].append(Point(say, root, case))
         else:
             tell("left out: it needs more memory than there is")
-    tell("growth: v, again ..")
-    out["v"] = [min(p, Point(say, root, p.case), key=Point.per_byte) for p in out["v"]]
+    for _ in range(1, TIMES):
+        tell("growth: v, again ..")
+        out["v"] = [min(p, Point(say, root, p.case), key=Point.per_byte) for p in out["v"]]
     return out
 
 
 def by_size(points):
-    """For each u, (array in MB, ns for each byte restored)."""
-    return {u: [(p.bytes / 1e6, p.per_byte()) for p in points["v"] if p.u == u] for u in timing.SIZES}
+    """For each u, (array in MB, ns for each byte restored) of the library and of fused C."""
+    return {u: [[(p.bytes / 1e6, p.per_byte(name)) for p in points["v"] if p.u == u] for name in ("library", "fused")]
+            for u in timing.SIZES}
 
 
 def targets(points):
     """The lowest of a series is 1; what is flushed comes from memory, whatever the array's size."""
     out = []
     for u in timing.SIZES:
-        here = [p for p in points["v"] if p.u == u]
-        lowest = min((p.per_byte() for p in here), default=None)
         text = f"rebuild of one disk at k = 3, g = 7, u = {u}, ns for each byte over that of the array with the lowest"
-        out.append(Target(text, FLAT, [(p, p.per_byte() / lowest) for p in here], CHECK, Point.check_share, most=True))
+        out.append(flat(text, [p for p in points["v"] if p.u == u]))
     return out
 
 
+def flat(text, points):
+    lowest, fused = (min((p.per_byte(name) for p in points), default=None) for name in ("library", "fused"))
+
+    def note(p):
+        return f"check {p.per_byte('refused') / p.per_byte():.2f}, C {p.per_byte('fused') / fused:.2f}"
+
+    return Target(text, FLAT, [(p, p.per_byte() / lowest) for p in points], CAUSE, note, most=True)
+
+
 def report(points):
-    heads = ["grows", "v", "k", "g", "u", "array, MB", "rebuild, ns/B", "check in it", "read for each byte", "ns for each moved",
-             "write, ns", "refused write", "audit, ns/B"]
+    heads = ["grows", "v", "k", "g", "u", "array, MB", "rebuild, ns/B", "check in it", "fused C", "read for each byte",
+             "ns/B moved", "write, ns", "refused write", "audit, ns/B"]
     rows = [[grows, *p.row()] for grows, series in points.items() for p in series]
     return [prose(ABOUT), "", *table(heads, rows)]

@@ -4,8 +4,8 @@ import shutil
 import subprocess
 
 from tables import figures, prose, shown, table
+from timing import SIZES
 
-SIZES = (512, 4096)
 CASES = [(v, k, g, u) for v, k, g in ((13, 4, 11), (21, 5, 11)) for u in SIZES]
 CODES = {"rs6+3": (6, 3), "rs10+4": (10, 4)}
 NAMES = {"library": "Himzolven", "rs6+3": "RS 6+3", "rs10+4": "RS 10+4"}
@@ -64,8 +64,8 @@ def layout_rows(cases):
         units = (c.v - 1) // (c.k - 1) * c.g
         most = " and ".join(f"{c.told['plan', where, 'units'] / units:.3f}" for where in ("own", "other"))
         capacity = (c.k - 1) * (c.g - 1) / (c.k * c.g)
-        yield [f"Himzolven, v = {c.v}, k = {c.k}, g = {c.g}", c.v * c.g, "any 3, or a group", f"{capacity:.3f}", 4, f"{c.read('one'):.2f}",
-               f"{c.read('three'):.2f}", f"{c.told['plan', 'any', 'disks']:.0f}", most]
+        yield [f"Himzolven, v = {c.v}, k = {c.k}, g = {c.g}", c.v * c.g, "any 3, or a group", f"{capacity:.3f}", 4,
+               f"{c.read('one'):.2f}", f"{c.read('three'):.2f}", f"{c.told['plan', 'any', 'disks']:.0f}", most]
     for name, (n, m) in CODES.items():
         yield [NAMES[name], n + m, f"any {m}", f"{n / (n + m):.3f}", 1 + m, f"{n:.2f}", f"{n / 3:.2f}",
                f"{n}, or {n + m - 1}", f"1, or {n / (n + m - 1):.3f}"]
@@ -83,46 +83,55 @@ def encode_rows(cases):
 
 
 def snapraid(tell):
-    """The best figure of each row of its table in GB/s, with what it says of its buffers; None where there is none."""
+    """Its best code and GB/s for 1 to 3 parities, with what it says of its buffers; None where it tells nothing."""
     if not shutil.which("snapraid"):
         return None
     tell("snapraid -T ..")
     told = subprocess.run(["snapraid", "-T"], capture_output=True, text=True).stdout
-    heads, rows = [], {}
+    ends, rows = {}, {}  # a column has 8 places and ends where its head does
     for line in told.splitlines():
         words = line.split()
         if words[:1] == ["best"]:
-            heads = [(m[0], m.end()) for m in re.finditer(r"\S+", line)]
-        elif heads and re.fullmatch(r"(gen|rec)\d", words[0] if words else ""):
-            by_tag = {tag: value for value, end in ((m[0], m.end()) for m in re.finditer(r"\S+", line))
-                      for tag, place in heads if place == end}
-            rows[words[0]] = words[1], float(by_tag[words[1]]) / 1000
+            ends = {m[0]: m.end() for m in re.finditer(r"\S+", line)}
+        elif len(words) > 2 and re.fullmatch("gen[123]", words[0]) and words[1] in ends:
+            best = line[ends[words[1]] - 8:ends[words[1]]].strip()
+            rows[int(words[0][3:])] = words[1], float(best) / 1000 if best.isdigit() else None
     buffers = re.search(r"using (.+?), for a total", told)
     return {"rows": rows, "buffers": buffers[1] if buffers else "its buffers", "version": version()} if rows else None
 
 
 def version():
+    """Of the package; SnapRAID itself does not always know it."""
+    if not shutil.which("dpkg-query"):
+        return ""
     packaged = subprocess.run(["dpkg-query", "-W", "-f", "${Version}", "snapraid"], capture_output=True, text=True)
     return packaged.stdout if packaged.returncode == 0 else ""
 
 
 def snapraid_report(told, audits):
     if not told:
-        return ["SnapRAID is not installed: no figures of it."]
-    rows = [[f"SnapRAID, parities: {n}", told["rows"][f"gen{n}"][0], shown(told["rows"][f"gen{n}"][1])]
-            for n in (1, 2, 3) if f"gen{n}" in told["rows"]]
+        return ["SnapRAID gave no figures: it is not installed, or its test prints another table."]
+    rows = [[f"SnapRAID, parities: {n}", code, shown(rate)] for n, (code, rate) in told["rows"].items()]
     rows += [[f"Himzolven, audit {where}", "", shown(rate)] for where, rate in audits.items()]
     return [prose(SNAPRAID.format(**told)), "", *table(["work", "code", "GB/s"], rows)]
 
 
-def ratio_groups(cases):
-    """What the plot of the ratios shows."""
-    def found(value):
-        return lambda name: {u: [value(c, name) / value(c, "library") for c in cases if c.u == u] for u in SIZES}
+def ratios(cases, what, name):
+    """(u, time of a code over the library's) for "write", "one", "three", or "rebuild" for both of these."""
+    if what == "write":
+        return [(c.u, c.write(name) / c.write("library")) for c in cases]
+    losses = ("one", "three") if what == "rebuild" else (what,) if what in ("one", "three") else ()
+    return [(c.u, c.rebuild(lost, name) / c.rebuild(lost, "library")) for c in cases for lost in losses]
 
-    rows = {"small write": found(Case.write), "rebuild of one disk": found(lambda c, name: c.rebuild("one", name)),
-            "rebuild of three disks": found(lambda c, name: c.rebuild("three", name))}
-    return [(f"Beside ISA-L's {NAMES[name]}", [(what, by(name), {}) for what, by in rows.items()]) for name in CODES if cases]
+
+def plotted(cases):
+    """Groups of rows for the plot; nothing is asked."""
+    def row(title, what, name):
+        return title, {u: [x for size, x in ratios(cases, what, name) if size == u] for u in SIZES}, {}
+
+    titles = {"write": "small write", "one": "rebuild of one disk", "three": "rebuild of three disks"}
+    return [(f"Beside ISA-L's Reed-Solomon {n}+{m}", [row(title, what, name) for what, title in titles.items()])
+            for name, (n, m) in CODES.items() if cases]
 
 
 def heads(*columns, first=()):

@@ -92,15 +92,17 @@ class Panel:
 
 
 def growth(by_size, counts):
-    """`by_size`: for each u, (MB, ns a byte). `counts`: for each call, for k = 2 and 3, (entries, instructions)."""
-    high = 1.25 * max(y for points in by_size.values() for _, y in points)
-    sizes = Panel(Axis(0.3, 1000, 62, 330, True), Axis(0, high, 350, 75), "Rebuild of one disk",
-                  "array, MB (k = 3, g = 7, v from 7 to 91)", "ns for each byte restored, from memory")
-    for u, points in by_size.items():
-        sizes.curve(points, BY_U[u], f"u = {u}")
+    """`by_size`: for each u, (MB, ns a byte) of the library and of C. `counts`: for each call, (entries, instructions) at k = 2
+    and 3."""
+    high = 1.15 * max(y for both in by_size.values() for points in both for _, y in points)
+    sizes = Panel(Axis(0.3, 1000, 62, 330, True), Axis(0, high, 350, 88), "Rebuild of one disk",
+                  "array, MB (k = 3, g = 7, v from 7 to 91)", "ns for each byte restored, from memory; ● library, ○ C")
+    for u, (library, fused) in by_size.items():
+        sizes.curve(fused, BY_U[u], hollow=True)
+        sizes.curve(library, BY_U[u], f"u = {u}")
     every = [y for series in counts.values() for points in series for _, y in points]
     low, top = 10 ** math.floor(math.log10(min(every))), 10 ** math.ceil(math.log10(max(every)))
-    lists = Panel(Axis(10, 10000, 500, 740, True), Axis(low, top, 350, 75, True), "Instructions of one call",
+    lists = Panel(Axis(10, 10000, 500, 740, True), Axis(low, top, 350, 88, True), "Instructions of one call",
                   "entries of the design's list (g = 11)", "● k = 2, ○ k = 3; all but the check less a check")
     for (call, (two, three)), colour in zip(counts.items(), (INK, BLUE, GREEN, PURPLE)):
         lists.curve(three, colour, hollow=True)
@@ -130,7 +132,7 @@ def ratios(groups):
             parts += ratio_row(axis, y, name, found, asked)
             y += 26
         y += 10
-    ticks = [t for t in (0.25, 0.5, 0.75, 1, 1.5, 2, 3, 4, 6) if axis.low <= t <= axis.high]
+    ticks = [t for t in (0.25, 0.35, 0.5, 0.75, 1, 1.5, 2, 3, 4, 6) if axis.low <= t <= axis.high]
     marks = [line(axis.at(t), 72, axis.at(t), y - 12, INK if t == 1 else FAINT, 1.6 if t == 1 else 1) for t in ticks]
     names = [text(axis.at(t), place, f"{t:g}", 12, "middle") for t in ticks for place in (66, y + 6)]
     head = [text(20, 26, "Time of the other over time of the library, from memory", 15, weight="bold"),

@@ -32,7 +32,7 @@ class Target:
     def misses(self):
         """A sentence with the places, or none."""
         places = [f"{place.at()}: {x:.2f}" + (f" ({self.note(place)})" if self.note else "") for place, x in self.missed]
-        return [prose(f"- {self.what}: {'; '.join(places)}. {self.cause}")] if places else []
+        return [prose(f"- {self.what}: {'; '.join(places)}. {self.cause or 'No cause is known.'}")] if places else []
 
 
 class Place:

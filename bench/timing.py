@@ -2,8 +2,7 @@
 import re
 from pathlib import Path
 
-from tables import figures, prose, shown, table
-from targets import Target
+from tables import figures, prose, shown, span, table
 
 SIZES = (512, 4096)
 CASES = [(v, k, g, u) for v, k, g in ((7, 3, 3), (13, 4, 11), (21, 5, 11), (91, 10, 11)) for u in SIZES]
@@ -40,10 +39,6 @@ disks are lost, as here.) Same passes, as of the audit: the unit is cleared, the
 the first source is copied over it instead, a pass fewer. From memory: a rebuild touches a small part of an array, so what it
 touches is flushed out of all caches, and its pages out of those translated, before it is timed. Hot: what it touches fits the
 second cache.
-"""
-SHORT = """
-Time of the other over time of the library, from memory: the lowest and the highest over the geometries. Above 1 the library is
-the faster.
 """
 FORMAT = "Format, us, the check included, beside memset of array and marks, which checks nothing."
 READ = "Read of whole units, ns, less the same call refused by the mark of the data disk, beside memcpy of the unit."
@@ -163,106 +158,16 @@ def part(about, heads, row, cases):
     return ["", prose(about), "", *table(first + heads, [c.head + row(c) for c in cases])]
 
 
-# of each target for a share of the memory limit: the call, its losses where it is the rebuild, u, and the least share
-SHARES = [
-    ("rebuild of one disk", ["one"], 4096, 0.6),
-    ("rebuild of three disks of one group", ["three"], 4096, 0.7),
-    ("write", None, 4096, 0.8),
-    ("audit", None, 4096, 0.5),
-    ("format", None, 4096, 0.5),
-    ("rebuild", LOSSES, 512, 0.25),
-    ("audit", None, 512, 0.3),
-]
-SAME = "In brackets fused C, which has one pass and registers of 16 bytes, as the library has."
-WIDE = "ISA-L may take registers of {}, the library those of 16 bytes that every x86-64 has. " + SAME
-COPY = "The C library may take registers of {}, Himzolven those of 16 bytes that every x86-64 has."
-
-
-def widest():
-    """The widest registers of the processor, as its flags tell."""
-    flags = Path("/proc/cpuinfo").read_text()
-    return next((f"{n} bytes ({name})" for flag, n, name in (("avx512f", 64, "AVX-512"), ("avx2", 32, "AVX2")) if flag in flags),
-                "16 bytes")
-
-
-class Found:
-    """What was found of one call, by place; a rebuild's places have a loss."""
-
-    def __init__(self, call, places, sizes=SIZES, where="memory"):
-        self.call, self.where, self.places = call, where, [c for c in places if c.u in sizes]
-        self.less = call in ("write", "read")
-
-    def ratio(self, c, name):
-        return c.ratio(getattr(c, "lost", self.call), self.where, name, self.less)
-
-    def beside(self, name):
-        return [(c, self.ratio(c, name)) for c in self.places]
-
-    def shares(self):
-        return [(c, c.share(self.call)) for c in self.places]
-
-    def fused(self, c):
-        return shown(self.ratio(c, "fused")) or "not told"
-
-    def by_u(self, name):
-        """The ratios that are told, for each u."""
-        return {u: [x for c, x in self.beside(name) if x and c.u == u] for u in SIZES}
-
-    def told(self, name):
-        """From the lowest to the highest."""
-        every = [x for _, x in self.beside(name) if x]
-        return f"{min(every):.2f} to {max(every):.2f}" if every else ""
-
-
-def targets(cases, losses):
-    out = []
-    three = (("write", cases), ("audit", cases), ("rebuild", losses))
-    for where, name, least in (("memory", "from memory", 1.2), ("hot", "hot", 0.9)):
-        for call, places in three:
-            f = Found(call, places, where=where)
-            out.append(Target(f"{call} {name}, beside C with the same passes", least, f.beside("passes"), SAME, f.fused))
-    for call, other in (("format", "memset"), ("read", "memcpy")):
-        text = f"{call} from memory, beside {other}"
-        out.append(Target(text, 0.9, Found(call, cases).beside(other), COPY.format(widest())))
-    for call, places in three:
-        f = Found(call, places, [4096])
-        text = f"{call} from memory at u = 4096, beside ISA-L"
-        out.append(Target(text, 0.9, f.beside("isal"), WIDE.format(widest()), f.fused))
-    for call, lost, u, least in SHARES:
-        f = Found(call, [c for c in losses if c.lost in lost] if lost else cases, [u])
-        out.append(Target(f"{call} at u = {u}, share of the memory limit", least, f.shares(), SAME, f.fused))
-    return out
-
-
-def ratio_groups(cases, losses):
-    """What the plot of the ratios shows, with what is asked for each u."""
-    three = [(name, Found(call, places)) for name, call, places in
-             (("write", "write", cases), ("audit", "audit", cases), ("rebuild of one to three disks", "rebuild", losses))]
-    others = (("format, beside memset", "format", "memset"), ("read, beside memcpy", "read", "memcpy"))
-    return [
-        ("Beside C with the same passes", [(name, f.by_u("passes"), {512: 1.2, 4096: 1.2}) for name, f in three]),
-        ("Beside C with all units in one loop", [(name, f.by_u("fused"), {}) for name, f in three]),
-        ("Beside ISA-L's XOR kernels", [(name, f.by_u("isal"), {4096: 0.9}) for name, f in three]),
-        ("Beside the C library", [(name, Found(call, cases).by_u(to), {512: 0.9, 4096: 0.9}) for name, call, to in others]),
-    ]
-
-
-def summary(cases, losses):
-    """One row a call: the lowest and the highest ratio."""
-    rows = []
-    for name, call, places, plain in (("write", "write", cases, "passes"), ("audit", "audit", cases, "passes"),
-                                      ("rebuild of one to three disks", "rebuild", losses, "passes"),
-                                      ("format, beside memset", "format", cases, "memset"),
-                                      ("read, beside memcpy", "read", cases, "memcpy")):
-        rows.append([name, Found(call, places).told(plain), Found(call, places).told("fused"),
-                     Found(call, places, [4096]).told("isal")])
-    return [prose(SHORT), "", *table(["call", "C with the same passes", "C with one pass", "ISA-L, u = 4096"], rows)]
-
-
 def audit_rates(cases):
     """GB/s of the array at the fastest geometry: from memory, and hot."""
     return {name: max((c.bytes / c.ns("audit", where) for c in cases if c.ns("audit", where)), default=None)
             for name, where in (("from memory", "memory"), ("hot", "hot"))}
+
+
+def limits(told):
+    """The memory limits in a sentence."""
+    rates = {name: span(c.rate(name) for c in told) for name in ("memcpy", "memset", "read")}
+    return "Memory limits over the geometries, GB/s: " + ", ".join(f"{name} {rate}" for name, rate in rates.items()) + "."
 
 
 def split(told):
