@@ -11,22 +11,20 @@ RATIOS = "Time of C, ISA-L and the Reed-Solomon codes over the library's, one do
 FONT = "font-family=\"'DejaVu Sans', Verdana, Arial, sans-serif\""
 
 
-def text(x, y, words, size=13, anchor="start", colour=INK, weight="normal", turned=False):
-    turn = f' transform="rotate(-90 {x:.1f} {y:.1f})"' if turned else ""
+def text(x, y, words, size=13, anchor="start", colour=INK, weight="normal"):
     look = f'font-size="{size}" text-anchor="{anchor}" fill="{colour}" font-weight="{weight}"'
-    return f'<text x="{x:.1f}" y="{y:.1f}" {look}{turn}>{escape(words)}</text>'
+    return f'<text x="{x:.1f}" y="{y:.1f}" {look}>{escape(words)}</text>'
 
 
-def line(x, y, x2, y2, colour=INK, width=1.0, dash=""):
-    dashed = f' stroke-dasharray="{dash}"' if dash else ""
-    return f'<line x1="{x:.1f}" y1="{y:.1f}" x2="{x2:.1f}" y2="{y2:.1f}" stroke="{colour}" stroke-width="{width}"{dashed}/>'
+def line(x, y, x2, y2, colour=INK, width=1.0):
+    return f'<line x1="{x:.1f}" y1="{y:.1f}" x2="{x2:.1f}" y2="{y2:.1f}" stroke="{colour}" stroke-width="{width}"/>'
 
 
-def dot(x, y, colour, size=4.5, hollow=False, says=""):
+def dot(x, y, colour, hollow=False, says=""):
     fill = PAPER if hollow else colour
     title = f"<title>{escape(says)}</title>" if says else ""
     look = f'fill="{fill}" stroke="{colour}" stroke-width="1.6" fill-opacity="0.85"'
-    return f'<circle cx="{x:.1f}" cy="{y:.1f}" r="{size}" {look}>{title}</circle>'
+    return f'<circle cx="{x:.1f}" cy="{y:.1f}" r="4" {look}>{title}</circle>'
 
 
 def picture(height, title, parts):
@@ -81,14 +79,14 @@ class Panel:
         self.parts += [line(left, bottom, right, bottom), text((left + right) / 2, bottom + 42, across, 12, "middle")]
         self.parts += [text(left - 44, top - 12, up, 12)]
 
-    def curve(self, points, colour, name="", hollow=False, lift=4):
+    def curve(self, points, colour, name="", hollow=False):
         at = [(self.x.at(x), self.y.at(y)) for x, y in points]
         dash = ' stroke-dasharray="5 4"' if hollow else ""
         path = " ".join(f"{x:.1f},{y:.1f}" for x, y in at)
         self.parts.append(f'<polyline points="{path}" fill="none" stroke="{colour}" stroke-width="2"{dash}/>')
-        self.parts += [dot(*place, colour, 4, hollow, f"{told(x)}: {y:.3g}") for place, (x, y) in zip(at, points)]
+        self.parts += [dot(*place, colour, hollow, f"{told(x)}: {y:.3g}") for place, (x, y) in zip(at, points)]
         if name:
-            self.parts.append(text(at[-1][0] + 9, at[-1][1] + lift, name, 12, colour=colour, weight="bold"))
+            self.parts.append(text(at[-1][0] + 9, at[-1][1] + 4, name, 12, colour=colour, weight="bold"))
 
 
 def growth(by_size, counts):
@@ -116,7 +114,7 @@ def ratio_row(axis, y, name, found, asked):
         lift = -4 if u == 512 else 4
         if u in asked:
             parts.append(line(axis.at(asked[u]), y + lift - 6, axis.at(asked[u]), y + lift + 6, GREEN, 3))
-        parts += [dot(axis.at(x), y + lift, BY_U[u], 4, says=f"u = {u}: {x:.2f}") for x in values]
+        parts += [dot(axis.at(x), y + lift, BY_U[u], says=f"u = {u}: {x:.2f}") for x in values]
     return parts
 
 
@@ -138,6 +136,6 @@ def ratios(groups):
     head = [text(20, 26, "Time of the other over time of the library, from memory", 15, weight="bold"),
             text(axis.at(1) - 8, 48, "← the other is faster", 12, "end"),
             text(axis.at(1) + 8, 48, "the library is faster →", 12),
-            dot(30, 44, BY_U[512], 4), text(40, 48, "u = 512", 12), dot(110, 44, BY_U[4096], 4), text(120, 48, "u = 4096", 12),
+            dot(30, 44, BY_U[512]), text(40, 48, "u = 512", 12), dot(110, 44, BY_U[4096]), text(120, 48, "u = 4096", 12),
             line(196, 38, 196, 52, GREEN, 3), text(204, 48, "asked", 12)]
     return picture(int(y + 20), "Beside C, ISA-L and Reed-Solomon codes", marks + names + head + parts)
