@@ -1,7 +1,8 @@
--- 00, demand 1: "Every public call takes any design list, sizes, marks and bytes, and ends. It refuses by a numbered reason exactly
--- when our rules give that reason. A refusal alters no lent byte." One line for each public call, over its own contract
--- (`Reads.Post`), for all arguments: no call has a `requires`, and that it ends is part of its proof. The lists of numbers are the
--- table of which refusals apply to which call. Assumes nothing.
+-- 00, demand 1: "Every public call takes any design list, sizes, marks and bytes, and ends. It refuses by a numbered reason
+-- exactly when our rules give that reason. A refusal alters no lent byte." One line for each public call, over its own contract
+-- (`Reads.Post`), for all arguments: no call has a `requires` (docs/PROMISES.md lists those), and that it ends is part of its
+-- proof. The lists of numbers are the table of which refusals apply to which call. A list that is not changed stands as one
+-- reference before and after. Assumes nothing.
 use Prim.Native.Nat.{ℕ}
 use mathlib.Core.List.{List, [], _∷_}
 use lib.ListN.{length}

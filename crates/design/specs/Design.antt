@@ -38,7 +38,7 @@ pub record Design (v k b : ℕ) (d : List ℕ) : Type 0 where
   pub ascending : (t l : ℕ) → t < b → l + 1 < k → groupAt k d t l < groupAt k d t (l + 1)
   pub pairs : (a c : ℕ) → a < c → c < v → OneRow k b d a c
 
--- a geometry and a list that none of 2 to 6 refuses: what the layout is laid on
+-- what the layout is laid on, and what is known where none of 2 to 6 refuses; of g it asks less (`Sound`)
 pub record Laid (G : Geometry) (d : List ℕ) : Type 0 where
   pub sound : Sound G
   pub design : Design (G .v) (G .k) (tuplesOf G) d

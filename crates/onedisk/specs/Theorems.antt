@@ -56,7 +56,7 @@ A-changed-byte-changes-what-the-plan-says =
 
 -- ---- over the contracts of the calls
 
--- "Rebuild is accepted": only the number of the disk's units can be answered
+-- "rebuild is accepted": only the number of the disk's units can be answered
 abbrev pub One-lost-disk-is-rebuilt : Type 0
 One-lost-disk-is-rebuilt =
     (κs : Lfts 3) (G : Geometry) (design array marks : RefT (List ℕ)) (x : ℕ) → Ready G design array marks x →

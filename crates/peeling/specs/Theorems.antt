@@ -72,7 +72,7 @@ abbrev pub AllZero : (ℕ → ℕ) → ℕ → List Side → Type 0
 AllZero bytes x [] = Unit {0}
 AllZero bytes x (v ∷ vs) = (Own x v × (sideSum bytes v (v .size) ≡ 0)) × AllZero bytes x vs
 
--- "On consistent bytes each restored unit is what it was before the loss, whatever the lost disks held": where every set of
+-- on consistent bytes each restored unit is what it was before the loss, whatever the lost disks held: where every set of
 -- `before` XORs to zero and `held` agrees with it on the cells present from the start, every present cell comes back
 abbrev pub Consistent-bytes-come-back : Type 0
 Consistent-bytes-come-back =
@@ -80,7 +80,7 @@ Consistent-bytes-come-back =
     ((x : ℕ) → x < n → AllZero before x (sides x)) → ((x : ℕ) → start x ≡ true → held x ≡ before x) →
     (x : ℕ) → presentAfter start (peeled start sides n) x ≡ true → byteAfter held (peeled start sides n) x ≡ before x
 
--- "What the array held on lost disks never influences the result"
+-- what the array held on lost disks never influences the result
 abbrev pub Lost-bytes-do-not-count : Type 0
 Lost-bytes-do-not-count =
     (start : ℕ → Bool) (sides : ℕ → List Side) (n : ℕ) (a b : ℕ → ℕ) → ((x : ℕ) → start x ≡ true → a x ≡ b x) →
