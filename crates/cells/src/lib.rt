@@ -7,7 +7,6 @@ use numbering::Digits;
 ghost use Prim.Native.Nat.{_<_};
 ghost use mathlib.Core.Path.{_≡_};
 ghost use Rattle.geometry.specs.Geometry.{Sound, userUnitsOf};
-ghost use Rattle.numbering.specs.Numbering.{digitsOf};
 ghost use Rattle.numbering.specs.Ranges.{OuterIn, InnerIn, DigitsIn};
 ghost use Rattle.cells.specs.Sets.{outerMember, innerParity};
 ghost use Rattle.cells.specs.Roles.{dataCell, parityCell, userCell, userOuter, innerOf, roleOf};

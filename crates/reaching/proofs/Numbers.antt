@@ -8,12 +8,9 @@ use lib.Arith.{digits-lt, digits-div, digits-mod}
 use Rattle.geometry.specs.declared.Geometry.{Geometry}
 use Rattle.geometry.specs.Geometry.{Sound, tuplesOf}
 use Rattle.design.specs.Design.{Laid}
-use Rattle.region.specs.Columns.{labelColumn, diagonalColumn}
 use Rattle.cells.specs.declared.Cell.{Cell}
-use Rattle.cells.specs.Cells.{cell, labelOf, diagonalOf}
+use Rattle.cells.specs.Cells.{cell}
 use Rattle.cells.specs.Ranges.{CellIn}
-use Rattle.cells.specs.Sets.{outerMember, innerMember}
-use Rattle.region.proofs.Turns.{labelColumn-lt, diagonalColumn-lt}
 use Rattle.cells.proofs.Sets.{label-column, diagonal-column}
 use Rattle.peeling.specs.Theorems.{Own}
 use Rattle.reaching.specs.Reach.{tupleCellsOf, numberOf, cellNumbered, outerSide, innerSide}

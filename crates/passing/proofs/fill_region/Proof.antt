@@ -1,6 +1,5 @@
 -- `passing::fill_region` meets its contract. Assumes nothing.
 use Rattle.reaching.proofs.Fills.{Filling, row-end, region-none, region-row, region-all}
-use Rattle.geometry.proofs.Fits.{product-fits}
 use Rattle.reaching.specs.State.{heldFrom}
 use native.Mathlib.Omega.{arith}
 use Prim.Native.Nat.{_-_, _*_, _%_, _≤_}
