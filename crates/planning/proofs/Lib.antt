@@ -3,3 +3,4 @@ pub mod Bounds
 pub mod Reasons
 pub mod Taken
 pub mod TwoResults
+pub mod Example
