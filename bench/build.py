@@ -8,11 +8,11 @@ import timing
 FLAGS = ("-std=c11", "-Wall", "-Wextra", "-Wpedantic", "-Wconversion", "-Werror", "-Iinclude", f"-DROUNDS={timing.ROUNDS}")
 # The C that is compared gets -O3 and SSE2, as the library has.
 OBJECTS = {
-    "contest": ("-O3", "-msse2"), "plain": ("-O3",), "isal": ("-O3",), "race": ("-O2",), "arrays": ("-O2",), "stack": ("-O2",),
+    "contest": ("-O3", "-msse2"), "plain": ("-O3",), "isal": ("-O3",), "race": ("-O2",), "arrays": ("-O2",),
 }
 PROGRAMS = {
-    "calls": ["plain", "stack", "arrays", "race", "contest"],
-    "bytes": ["stack", "arrays", "race", "contest"],
+    "calls": ["plain", "arrays", "race", "contest"],
+    "bytes": ["arrays", "race", "contest"],
     "peers": ["arrays", "race", "contest"],
 }
 

@@ -1,6 +1,6 @@
-/* The byte calls: format, read, write, audit and rebuild, timed beside C (contest.c), alone as the sizes grow, run once under
- * callgrind, or for their stack.
- * usage: bytes time|rebuild|stack V K G U, bytes growth V K G U LIST, bytes once format|read|write|audit|rebuild V K G U, or
+/* The byte calls: format, read, write, audit and rebuild, timed beside C (contest.c), alone as the sizes grow, or run once
+ * under callgrind.
+ * usage: bytes time|rebuild V K G U, bytes growth V K G U LIST, bytes once format|read|write|audit|rebuild V K G U, or
  * bytes isal
  * `time` prints lines "call memory|hot contestant ns", ns of one call; `rebuild` times that call alone.
  * `growth` takes the design from the file LIST and times write, audit and, beside fused C, the rebuild of one disk, from memory.
@@ -11,7 +11,6 @@
 #include <unistd.h>
 
 #include "arrays.h"
-#include "stack.h"
 
 enum { WRITES = 200, FLIPS = 40 };
 
@@ -310,13 +309,6 @@ int main(int argc, char **argv) {
         make_shape(argv + 2, argv[6]);
         return run_growth();
     }
-    if (argc == 6 && strcmp(argv[1], "stack") == 0) {
-        make_shape(argv + 2, NULL);
-        make_pool(0, 1);
-        for (int c = 0; c < COUNT(calls); c++) printf("%s%zu", c ? " " : "", stack_touched(calls[c].call));
-        printf("\n");
-        return sink != 0;
-    }
     if (argc == 7 && strcmp(argv[1], "once") == 0) {
         make_shape(argv + 3, NULL);
         make_pool(0, 1);
@@ -328,7 +320,7 @@ int main(int argc, char **argv) {
         printf("%s\n", ISAL_TOLD);
         return 0;
     }
-    fprintf(stderr, "usage: bytes time|rebuild|stack V K G U, bytes growth V K G U LIST,\n"
+    fprintf(stderr, "usage: bytes time|rebuild V K G U, bytes growth V K G U LIST,\n"
                     "       bytes once format|read|write|audit|rebuild V K G U, or bytes isal\n");
     return 2;
 }

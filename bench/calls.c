@@ -1,5 +1,5 @@
-/* The calls without bytes, proved and plain: run under callgrind to count instructions, or alone to measure stack.
- * usage: calls count V K G U COUNT [LIST]   or   calls stack V K G U [LIST], which compares all plans first
+/* The calls without bytes, proved and plain: run under callgrind to count instructions, or alone to compare plans.
+ * usage: calls count V K G U COUNT [LIST]   or   calls plans V K G U [LIST]
  * The design is the held one, or is read from the file LIST. `count` makes each call COUNT times, of the plan a tenth of that,
  * proved and plain, and compares the answers. */
 #include <inttypes.h>
@@ -9,7 +9,6 @@
 
 #include "arrays.h"
 #include "plain.h"
-#include "stack.h"
 
 enum { PLAN_MAX = 10800 }; /* numbers that are lent to a plan, more than any has */
 
@@ -43,31 +42,19 @@ __attribute__((noinline)) static void count_calls(uint32_t count) {
     }
 }
 
-static void one_check(void) { sink += himzolven_check(DESIGN).refusal; }
-static void one_map(void) { sink += himzolven_map(GEOMETRY, 1).refusal; }
-static void one_role(void) { sink += himzolven_role(GEOMETRY, 1, 1).refusal; }
-static void one_plan(void) { sink += himzolven_plan(GEOMETRY, 1, ours, PLAN_MAX).refusal; }
-static void one_sizes(void) { sink += himzolven_sizes(GEOMETRY).refusal; }
-static void one_fill(void) {
-    static uint16_t filled[LIST_MAX];
-    sink += himzolven_fill(s.v, filled, (size_t)s.v * s.k).refusal;
-}
-
-static void stacks(void) {
-    static void (*const all[])(void) = {one_check, one_map, one_role, one_plan, one_sizes, one_fill};
+static void compare_plans(void) {
     for (uint32_t disk = 0; disk <= s.disks; disk++) count_plan(disk);
-    for (int c = 0; c < COUNT(all); c++) printf("%zu%s", stack_touched(all[c]), c + 1 < COUNT(all) ? " " : "\n");
 }
 
 int main(int argc, char **argv) {
-    int count = argc >= 7 && strcmp(argv[1], "count") == 0, stack = argc >= 6 && strcmp(argv[1], "stack") == 0;
+    int count = argc >= 7 && strcmp(argv[1], "count") == 0, plans = argc >= 6 && strcmp(argv[1], "plans") == 0;
     int last = count ? 7 : 6;
-    if (!(count || stack) || argc > last + 1) {
-        fprintf(stderr, "usage: calls count V K G U COUNT [LIST], or calls stack V K G U [LIST]\n");
+    if (!(count || plans) || argc > last + 1) {
+        fprintf(stderr, "usage: calls count V K G U COUNT [LIST], or calls plans V K G U [LIST]\n");
         return 2;
     }
     make_shape(argv + 2, argc > last ? argv[last] : NULL);
     if (count) count_calls((uint32_t)atoi(argv[6]));
-    else stacks();
+    else compare_plans();
     return 0;
 }

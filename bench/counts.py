@@ -12,13 +12,10 @@ CASES = [(7, 3, 3), (13, 4, 11), (21, 5, 11), (91, 10, 11), (91, 10, 13), (91, 2
 GROWING = [(v, k, 11) for k in (2, 3) for v in (7, 13, 31, 61, 91)]
 OTHER_SIZES = [(31, 3, 3, 1), (31, 3, 13, 4096)]  # beside (31, 3, 11, 512)
 CALLS = ("check", "map", "role", "plan")
-STACKED = CALLS + ("sizes", "fill")
 COUNT = 100
 ABOUT = """
 Instructions of one call, proved and in plain C (`bench/plain.c`, gcc -O3), counted by callgrind. Each call checks the design
-anew, so a map's count holds a check's. All answers are compared while they are counted, and the plans of all disks besides. Of
-the sizes and the fill only the stack is measured. (At k = 2, the complete graph, the list has not the length of the held
-design, so fill refuses there.)
+anew, so a map's count holds a check's. All answers are compared while they are counted, and the plans of all disks besides.
 """
 GROWTH = """
 Instructions as the list grows, g = 11: of the check, and of the map, the way back and the plan less a check; in brackets those
@@ -65,9 +62,8 @@ class Counts:
             return counted(root, case, u)
 
         self.cases = {case: count(case) for case in CASES}
-        self.stacks = {
-            (v, k, g): say("target/calls", "stack", v, k, g, 512, designs.written(root, v, k)).split() for v, k, g in CASES
-        }
+        for v, k, g in CASES:
+            say("target/calls", "plans", v, k, g, 512, designs.written(root, v, k))
         self.growing = {case: count(case) for case in GROWING}
         self.others = {case: count(case[:3], case[3]) for case in OTHER_SIZES}
 
@@ -76,12 +72,9 @@ class Counts:
 
     def rows(self):
         for case, told in self.cases.items():
-            stack = dict(zip(STACKED, self.stacks[case]))
             for call in CALLS:
                 both = [f"{told[f'{kind}_{call}']:.0f}" for kind in ("himzolven", "plain")]
-                yield [*case, call, *both, f"{self.ratio(case, call):.2f}", stack[call]]
-            for call in STACKED[len(CALLS):]:
-                yield [*case, call, "", "", "", stack[call]]
+                yield [*case, call, *both, f"{self.ratio(case, call):.2f}"]
 
     def series(self, k, call, less=False):
         """(entries of the list, instructions); with `less`, a check is taken off the other calls."""
@@ -126,7 +119,7 @@ class Counts:
                 for case, told in self.others.items()]
 
     def report(self):
-        heads = ["v", "k", "g", "call", "proved", "plain C", "ratio", "stack of the proved call, bytes"]
+        heads = ["v", "k", "g", "call", "proved", "plain C", "ratio"]
         grown = ["k", "v", "entries", "check", "map", "way back", "plan", "plan / (r · entries)"]
         return [prose(ABOUT), "", *table(heads, self.rows()), "", prose(GROWTH), "", *table(grown, self.growth_rows())]
 

@@ -187,8 +187,3 @@ def report(told):
     out += part(FORMAT, ["format", "check in it", "memset", "share of memset", "hot: memset"], format_row, cases)
     out += part(READ, ["refused call", "read", "memcpy", "share of read", "hot: read", "memcpy"], read_row, cases)
     return out + part(LIMITS, ["array, MB", "arrays in turn", "memcpy", "memset", "read"], limit_row, told)
-
-
-def stacks(say):
-    rows = [[*case, *say("target/bytes", "stack", *case).split()] for case in CASES]
-    return table(["v", "k", "g", "u", "format", "read", "write", "audit", "rebuild"], rows)

@@ -6,7 +6,6 @@ mod mutate;
 
 use crate::given::Given;
 use crate::pool::{self, Design};
-use crate::random::Random;
 use crate::run::both;
 use crate::sequences::call::Kind as ArrayKind;
 use crate::sequences::crash::{self, At};
@@ -14,6 +13,7 @@ use crate::sequences::pair::{Pair, Shelf};
 use crate::tally::Tally;
 use crate::{call::Kind, lent::Lent};
 use compare::model::{Fault, Model, Plant};
+use compare::random::Random;
 use decode::{decoded, seeds, Decoded};
 use mutate::mutated;
 use std::collections::HashSet;

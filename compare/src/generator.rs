@@ -4,7 +4,7 @@ use crate::call::{Call, Kind};
 use crate::given::Given;
 use crate::hostile::{beyond, spoil, wild_numbers};
 use crate::pool::{self, Design};
-use crate::random::Random;
+use compare::random::Random;
 
 /// An endless stream of calls that the seed settles.
 pub struct Generator<'a> {

@@ -3,8 +3,8 @@
 
 use crate::call::{Call, Kind};
 use crate::given::Given;
-use crate::random::Random;
 use compare::model::{Model, Plant};
+use compare::random::Random;
 
 /// Spoils a valid call so that it should be refused with the number.
 pub fn spoil(call: &mut Call, number: u32, random: &mut Random) {

@@ -1,6 +1,6 @@
 //! Which disks are lost: losses of several shapes, some near the bound of what can be rebuilt.
 
-use crate::random::Random;
+use compare::random::Random;
 
 /// The most disks of a random loss.
 const MOST: usize = 9;

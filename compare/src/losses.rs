@@ -7,13 +7,13 @@ mod held;
 use crate::given::Given;
 use crate::loss;
 use crate::pool::{self, Design};
-use crate::random::Random;
 use crate::sequences::array::Array;
 use crate::sequences::call::Reply;
 use crate::sequences::crash::{self, At};
 use crate::sequences::steps::drawn;
 use crate::sequences::taken::Taken;
 use compare::model::{Fault, Model, Plant};
+use compare::random::Random;
 use held::Held;
 use std::panic::{catch_unwind, AssertUnwindSafe};
 

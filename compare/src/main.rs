@@ -13,7 +13,6 @@ mod loss;
 mod losses;
 mod pool;
 mod printed;
-mod random;
 mod run;
 mod sequences;
 mod tally;

@@ -4,8 +4,8 @@
 mod families;
 mod spaces;
 
-use crate::random::Random;
 use compare::model::{Model, Plant};
+use compare::random::Random;
 use families::{cyclic, triples_of_bose, triples_of_skolem, FAMILIES};
 use spaces::{affine, projective};
 

@@ -3,9 +3,9 @@
 use crate::call::{Call, Kind};
 use crate::given::Given;
 use crate::pool::Design;
-use crate::random::Random;
 use crate::sequences::call::{Call as ArrayCall, Kind as ArrayKind};
 use crate::sequences::pair::Step;
+use compare::random::Random;
 
 /// The most bytes of an array, and of any other list of raw length.
 const MOST: u64 = 1 << 13;

@@ -1,6 +1,6 @@
 //! Changes of raw strings.
 
-use crate::random::Random;
+use compare::random::Random;
 
 /// The longest string.
 const LONGEST: usize = 400;

@@ -4,10 +4,10 @@ use super::held::Held;
 use super::Seen;
 use crate::given::Given;
 use crate::pool::F;
-use crate::random::Random;
 use crate::sequences::array::Array;
 use crate::sequences::crash::{self, At};
 use compare::model::Model;
+use compare::random::Random;
 
 /// How many losses of none to five disks of F with g = 3 there are, and how many can be rebuilt.
 const OF_F: [(u64, u64); 6] = [(1, 1), (21, 21), (210, 210), (1_330, 1_330), (5_985, 5_796), (20_349, 17_388)];

@@ -2,11 +2,11 @@
 
 use crate::lent::Lent;
 use crate::loss;
-use crate::random::Random;
 use crate::sequences::array::Array;
 use crate::sequences::call::{Call, Kind, Reply};
 use crate::sequences::pair::{Pair, Shelf, Step};
 use compare::model::Model;
+use compare::random::Random;
 
 /// An array with what it holds: right parities or not.
 pub struct Held {

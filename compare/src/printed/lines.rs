@@ -1,7 +1,7 @@
 //! The lines: good ones for every held v, such as are refused, and malformed ones of every kind.
 
 use crate::pool::{Design, HELD};
-use crate::random::Random;
+use compare::random::Random;
 
 /// How many lines are good or refused ones with a few bytes changed.
 const CHANGED: usize = 300;

@@ -2,8 +2,8 @@
 
 use crate::given::Given;
 use crate::pool::Design;
-use crate::random::Random;
 use compare::model::{Geometry, Model, Place, Plant, Sizes};
+use compare::random::Random;
 
 /// The most bytes of an array of a sequence.
 const MOST: usize = 1 << 20;

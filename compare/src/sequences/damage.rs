@@ -2,8 +2,8 @@
 
 use super::array::Array;
 use super::pair::Damage;
-use crate::random::Random;
 use compare::model::Place;
+use compare::random::Random;
 
 /// One way to damage an array. Where a difference goes into some of the four units of a write, it is found by the sets
 /// that have an odd number of them, and into all four by none.

@@ -6,7 +6,7 @@ use super::pair::Step;
 use crate::hostile::{beyond, spoil_given};
 use crate::lent::REDZONE;
 use crate::loss;
-use crate::random::Random;
+use compare::random::Random;
 
 /// Spoils a valid step so that its call should be refused with the number.
 pub fn spoil(step: &mut Step, number: u32, array: &mut Array, random: &mut Random) {

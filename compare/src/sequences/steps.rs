@@ -9,7 +9,7 @@ use crate::hostile::wild_numbers;
 use crate::lent::Lent;
 use crate::loss;
 use crate::pool::Design;
-use crate::random::Random;
+use compare::random::Random;
 
 /// One sequence; the seed and its number settle it.
 pub struct Steps {

@@ -1,9 +1,9 @@
 //! Designs, and calls that check a list or fill one.
 
-use crate::random::Random;
 use crate::step::told;
 use crate::tally::Tally;
 use compare::model::Model;
+use compare::random::Random;
 use himzolven::Design;
 
 /// The two calls with their refusals.

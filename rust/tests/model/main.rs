@@ -4,14 +4,13 @@
 mod designs;
 mod examples;
 mod lent;
-mod random;
 mod sequence;
 mod step;
 mod tally;
 
 use compare::model::{Fault, Model, Plant};
+use compare::random::Random;
 use himzolven::Design;
-use random::Random;
 use sequence::Sequence;
 use std::panic::{AssertUnwindSafe, catch_unwind};
 use std::time::{SystemTime, UNIX_EPOCH};
@@ -25,12 +24,12 @@ fn seeds() -> Vec<u64> {
 
 /// Calls of one seed: the designs' calls, a sequence on an array of each design of the pool, and the largest sizes.
 fn calls(seed: u64, pool: &[Design], model: &mut Model, tally: &mut Tally) -> Result<(), String> {
-    let mut random = Random(seed);
+    let mut random = Random::new(seed);
     (0..=100).chain([u32::MAX]).try_for_each(|v| designs::held(v, model, tally))?;
     (0..400).try_for_each(|_| designs::check(pool, &mut random, model, tally))?;
     for design in pool {
         let steps = if design.v() > 13 { 20 } else { 300 };
-        Sequence::new(design, Random(random.next())).run(steps, model, tally)?;
+        Sequence::new(design, Random::new(random.next())).run(steps, model, tally)?;
     }
     sequence::largest_sizes(&designs::complete(91), model)
 }

@@ -1,10 +1,10 @@
 //! Random sequences of calls on one array, accepted and refused ones mixed.
 
 use crate::lent::{REDZONE, Twice};
-use crate::random::Random;
 use crate::step::{Call, Shelf, Step};
 use crate::tally::Tally;
 use compare::model::Model;
+use compare::random::Random;
 use himzolven::{Design, Geometry, Sizes, UserUnit};
 
 /// A call's name, the refusals that it is spoiled for (2 to 5 are the design's), and the call with numbers that it accepts.
@@ -135,14 +135,15 @@ impl<'a> Sequence<'a> {
                 let (disk, mark) = (random.below(sizes.marks), 2 + random.below(254) as u8);
                 self.shelf.marks.change(|marks| (marks[disk], marks[disk / 2]) = (mark, mark));
             }
-            (9, Call::Role { unit, .. }) if random.one_in(2) => *unit = random.beyond(sizes.units),
-            (9, Call::Role { disk, .. } | Call::Plan { disk, .. }) => *disk = random.beyond(sizes.disks),
+            (9, Call::Role { unit, .. }) if random.one_in(2) => *unit = beyond(random, sizes.units),
+            (9, Call::Role { disk, .. } | Call::Plan { disk, .. }) => *disk = beyond(random, sizes.disks),
             (10, Call::Map { user } | Call::Read { user, .. } | Call::Write { user, .. }) => {
-                *user = random.beyond(sizes.user_units);
+                *user = beyond(random, sizes.user_units);
             }
             (11, Call::Read { offset, .. } | Call::Write { offset, .. }) => {
                 let end = u64::from(self.geometry.u) + 1;
-                *offset = random.pick(&[end, 1 << 32, u64::MAX, random.0.max(end)]);
+                let any = random.next().max(end);
+                *offset = random.pick(&[end, 1 << 32, u64::MAX, any]);
             }
             (12, Call::Read { user, .. } | Call::Write { user, .. }) => self.mark_four(*user),
             (13, _) => self.mark_groups(),
@@ -166,6 +167,12 @@ impl<'a> Sequence<'a> {
         let first = self.random.below(self.sizes.marks / g - 1);
         self.shelf.marks.change(|marks| marks[first * g..][..2 * g].fill(1));
     }
+}
+
+/// A number that is too high for a bound: by one, by some, or by very much.
+fn beyond(random: &mut Random, bound: u32) -> u32 {
+    let (some, any) = (random.below(300) as u32, random.next() as u32);
+    random.pick(&[bound, bound + some, u32::MAX, any.max(bound)])
 }
 
 /// Another length than the right one.
