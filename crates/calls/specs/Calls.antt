@@ -4,10 +4,10 @@
 -- proof. The lists of numbers are the table of which refusals apply to which call. A list that is not changed stands as one
 -- reference before and after. Assumes nothing.
 use Prim.Native.Nat.{ℕ}
-use mathlib.Core.List.{List, [], _∷_}
+use mathlib.Core.List.{[], _∷_}
 use lib.ListN.{length}
 use contract.Lifetimes.{Lfts}
-use denote.Ref.{RefT, now}
+use denote.Ref.{now}
 use Rattle.refusal.specs.Refusal.{checkedOutcome}
 use Rattle.geometry.specs.declared.Geometry.{Geometry}
 use Rattle.geometry.specs.declared.Disk.{Disk}
@@ -59,7 +59,7 @@ use Rattle.host.proofs.himzolven_write.Reads as c-write
 use Rattle.host.proofs.himzolven_audit.Reads as c-audit
 use Rattle.host.proofs.himzolven_rebuild.Reads as c-rebuild
 use Rattle.host.proofs.himzolven_plan.Reads as c-plan
-use Rattle.calls.specs.Refuses.{Lent, TwoLent, nothing, both, always, Refuses}
+use Rattle.calls.specs.Refuses.{Lent, nothing, both, always, Refuses}
 use Rattle.calls.specs.Heard.{heardAnswer, heardSizes, heardMap, heardRole, heardAudit, heardCount}
 
 -- the calls in Rattle

@@ -107,7 +107,8 @@ pub record SameAsTheCall : Type 0 where
       (geometry v k g u, (design, (array, tt)))
   pub rebuild :
       (κs : Lfts 3) (v k g u : ℕ) (design array marks array₁ marks₁ : Lent) (c : CountAnswer) →
-      c-rebuild.Post κs (v, (k, (g, (u, (design, (array, (marks, tt))))))) c (v, (k, (g, (u, (design, (array₁, (marks₁, tt))))))) →
+      c-rebuild.Post κs (v, (k, (g, (u, (design, (array, (marks, tt))))))) c
+      (v, (k, (g, (u, (design, (array₁, (marks₁, tt))))))) →
       (r : Rebuilt) × (flatCount (rebuiltOutcome r) ≡ c)
       × rebuild.Post κs (geometry v k g u, (design, (array, (marks, tt)))) r
       (geometry v k g u, (design, (array₁, (marks₁, tt))))
