@@ -3,4 +3,5 @@ pub mod Calls
 pub mod Heard
 pub mod ForC
 pub mod Same
+pub mod Published
 pub mod Theorems

@@ -1,1 +1,1 @@
-// Demand 1 of every public call, gathered: definitions and theorems only.
+// Demand 1 of every public call, and the first two sentences of demand 2, gathered: definitions and theorems only.
