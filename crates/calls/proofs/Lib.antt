@@ -4,4 +4,5 @@ pub mod Heard
 pub mod ForC
 pub mod Same
 pub mod Published
+pub mod Written
 pub mod Theorems

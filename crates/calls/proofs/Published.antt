@@ -89,7 +89,7 @@ module _ (G : Geometry) (s : Sound G) (t l i c : ℕ) (h : UserIn G t l i c) whe
   outer-diagonal : Diagonal G i (columnAt G (G .k - 1) i c) (diagonal G t (G .k - 1) i c)
   outer-diagonal = on-diagonal G s t (G .k - 1) i c (h .label) (omega (arith, h .region))
 
-  published-places : (d : List ℕ) → PublishedPlaces G d t l i c (fourOf G d (unitOf G t l i c .0))
+  pub published-places : (d : List ℕ) → PublishedPlaces G d t l i c (fourOf G d (unitOf G t l i c .0))
   unfolding fourOf innerOf
   published-places d =
       record {
@@ -117,7 +117,7 @@ abbrev number : ℕ → UserUnit
 number n = record { 0 = n }
 
 -- a user unit's number has its digits
-numbered :
+pub numbered :
     (G : Geometry) → Sound G → (n : UserUnit) → n .0 < userUnitsOf G →
     (t : ℕ) × (l : ℕ) × (i : ℕ) × (c : ℕ) × UserIn G t l i c × (n ≡ unitOf G t l i c)
 unfolding userNumber

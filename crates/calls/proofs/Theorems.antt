@@ -6,6 +6,7 @@ use Rattle.calls.proofs.Calls.{every-call}
 use Rattle.calls.proofs.ForC.{every-function-for-C}
 use Rattle.calls.proofs.Same.{same-as-the-call}
 use Rattle.calls.proofs.Published as published
+use Rattle.calls.proofs.Written as written
 
 pub demand-1 : Theorems.Demand-1
 demand-1 = (every-call, every-function-for-C)
@@ -30,3 +31,6 @@ the-map-names-what-the-way-back-names = back-and-map
 
 pub an-accepted-write-puts-one-difference-into-four-units : Theorems.An-accepted-write-puts-one-difference-into-four-units
 an-accepted-write-puts-one-difference-into-four-units = accepted-difference
+
+pub an-accepted-write-goes-to-the-published-places : Theorems.An-accepted-write-goes-to-the-published-places
+an-accepted-write-goes-to-the-published-places = written.places-of-a-write

@@ -1,13 +1,17 @@
 -- 00, demand 2: "The place of each user block, the way back from a disk unit to its role, and both parities are those of the
--- published layout." The published layout in 01's own formulas, for the statements over the calls `map` and `role`. Assumes
--- nothing.
-use Prim.Native.Nat.{ℕ, _+_, _-_, _*_, _%_, _<_}
+-- published layout. An accepted write puts the same byte difference into one data and three parity units and touches nothing
+-- else." The published layout in 01's own formulas, for the statements over the calls `map`, `role` and `write`. Assumes nothing.
+use Prim.Native.Nat.{ℕ, _+_, _-_, _*_, _%_, _≤_, _<_}
 use mathlib.Core.Path.{_≡_}
+use mathlib.Core.Logic.{_⊎_}
 use mathlib.Core.List.{List}
+use lib.Bits.{bitXor}
+use lib.ListN.{getD, length}
 use contract.Lifetimes.{Lfts}
 use Rattle.counting.specs.Counting.{countBelow}
 use Rattle.geometry.specs.declared.Geometry.{Geometry}
 use Rattle.geometry.specs.declared.UserUnit.{UserUnit}
+use Rattle.geometry.specs.Geometry.{unitsOf}
 use Rattle.design.specs.Design.{groupAt, names}
 use Rattle.numbering.specs.Ranges.{OuterIn, InnerIn, UserIn}
 use Rattle.cells.specs.declared.Role.{Role}
@@ -86,3 +90,42 @@ pub record FourBack (κs : Lfts 1) (G : Geometry) (design : Lent) (t l i c : ℕ
   pub outer : Answers κs G design (f .outer) (outer t i c)
   pub inner : AnswersInner κs G design t l i c (f .inner)
   pub both : AnswersInner κs G design t (G .k - 1) i c (f .both)
+
+-- "The buffer holds disk 0 whole, then disk 1, and so on": byte o + j of the unit at place p
+abbrev pub byteAt : Geometry → Place → (o j : ℕ) → ℕ
+byteAt G p o j = (p .disk .0 * unitsOf G + p .unit .0) * G .u + o + j
+
+-- from a to b, "the difference of new and old bytes is XORed into" the unit at place p; the old bytes are those at place x
+abbrev pub XoredInto : Geometry → (a b : List ℕ) → (x : Place) → (o : ℕ) → (new : List ℕ) → (p : Place) → Type 0
+XoredInto G a b x o new p =
+    (j : ℕ) → j < length new →
+    getD b (byteAt G p o j) 0
+    ≡ bitXor (getD a (byteAt G p o j) 0) (bitXor (getD a (byteAt G x o j) 0) (getD new j 0))
+
+-- byte i of the array is none of the n bytes from offset o of the unit at place p
+abbrev pub Outside : Geometry → Place → (o n i : ℕ) → Type 0
+Outside G p o n i = (i < byteAt G p o 0) ⊎ (byteAt G p o n ≤ i)
+
+-- "into the data unit, its outer parity, the inner parity of the data unit and the inner parity of the outer parity unit", and
+-- into no other byte
+pub record FourXored (G : Geometry) (a b : List ℕ) (f : Four) (o : ℕ) (new : List ℕ) : Type 0 where
+  pub long : length b ≡ length a
+  pub user : XoredInto G a b (f .user) o new (f .user)
+  pub outer : XoredInto G a b (f .user) o new (f .outer)
+  pub inner : XoredInto G a b (f .user) o new (f .inner)
+  pub both : XoredInto G a b (f .user) o new (f .both)
+  pub nothing-else :
+      (i : ℕ) → Outside G (f .user) o (length new) i → Outside G (f .outer) o (length new) i →
+      Outside G (f .inner) o (length new) i → Outside G (f .both) o (length new) i → getD b i 0 ≡ getD a i 0
+
+-- user unit n is a label's, and its four published places have the difference
+pub record Written (G : Geometry) (d a b : List ℕ) (n : UserUnit) (o : ℕ) (new : List ℕ) : Type 0 where
+  pub tuple : ℕ
+  pub position : ℕ
+  pub row : ℕ
+  pub column : ℕ
+  pub label : UserIn G tuple position row column
+  pub number : n ≡ unitOf G tuple position row column
+  pub places : Four
+  pub published : PublishedPlaces G d tuple position row column places
+  pub xored : FourXored G a b places o new

@@ -22,7 +22,7 @@ use Rattle.writing.proofs.write.Reads as write
 use Rattle.calls.specs.Refuses.{Lent}
 use Rattle.calls.specs.Calls.{EveryCall, EveryFunctionForC}
 use Rattle.calls.specs.Same.{SameAsTheCall}
-use Rattle.calls.specs.Published.{unitOf, PublishedPlaces, PublishedRole, FourBack}
+use Rattle.calls.specs.Published.{unitOf, PublishedPlaces, PublishedRole, FourBack, Written}
 
 -- 00, demand 1: "Every public call takes any design list, sizes, marks and bytes, and ends. It refuses by a numbered reason
 -- exactly when our rules give that reason. A refusal alters no lent byte."
@@ -76,3 +76,11 @@ An-accepted-write-puts-one-difference-into-four-units =
     write.Post κs (G, (design, (array, (marks, (n, (offset, (bytes, tt))))))) Fine
     (G, (design, (array₁, (marks, (n, (offset, (bytes, tt))))))) →
     SameDifference G (now design) (now array) (now array₁) (n .0) offset (now bytes)
+
+-- and these are the four published places of the unit
+abbrev pub An-accepted-write-goes-to-the-published-places : Type 0
+An-accepted-write-goes-to-the-published-places =
+    (κs : Lfts 4) (G : Geometry) (design array marks : Lent) (n : UserUnit) (offset : ℕ) (bytes array₁ : Lent) →
+    write.Post κs (G, (design, (array, (marks, (n, (offset, (bytes, tt))))))) Fine
+    (G, (design, (array₁, (marks, (n, (offset, (bytes, tt))))))) →
+    Written G (now design) (now array) (now array₁) n offset (now bytes)
