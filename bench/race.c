@@ -5,6 +5,7 @@
 #include <stdio.h>
 #include <stdlib.h>
 #include <string.h>
+#include <sys/mman.h>
 #include <time.h>
 #include <unistd.h>
 
@@ -38,42 +39,50 @@ static int by_size(const void *a, const void *b) {
 }
 
 /* one round: its figure is the median of its batches, so that neither a disturbed batch counts nor one that found its bytes in a
- * cache */
-static void run_round(contestant *all, int n, int r, int batches, uint32_t calls) {
+ * cache; returns what all contestants took together */
+static double run_round(contestant *all, int n, int r, int batches, uint32_t calls) {
     for (int b = 0; b < batches; b++)
         for (int z = 0; z < n; z++) {
             contestant *c = &all[(z + b + r) % n];
             c->took[b] = timed(c, calls);
         }
+    double together = 0;
     for (int z = 0; z < n; z++) {
         contestant *c = &all[z];
         qsort(c->took, (size_t)batches, sizeof c->took[0], by_size);
-        double middle = c->took[batches / 2];
-        if (r == 0 || middle < c->best) c->best = middle;
+        together += c->middle = c->took[batches / 2];
     }
+    return together;
 }
 
-/* Rounds of batches, the contestants in turn within each batch; the race's figure is the best round's. */
+/* Rounds of batches, the contestants in turn within each batch. The race's figures are those of its quietest round, in which all
+ * contestants together took the least: a ratio is then of one round. */
 void race(const char *call, contestant *all, int n, double seconds) {
-    double turn_ns = 0, slowest = 0;
+    double turn_ns = 0, slowest = 0, least = 0;
     for (int c = 0; c < n; c++) {
         timed(&all[c], 1);
         double from = now(), t = timed(&all[c], 1);
         turn_ns += now() - from;
         if (t > slowest) slowest = t;
-        all[c].best = 0;
     }
     uint32_t calls = 3e5 / slowest > CALLS_MAX ? CALLS_MAX : 3e5 / slowest < 1 ? 1 : (uint32_t)(3e5 / slowest);
     double fit = seconds * 1e9 / (ROUNDS * turn_ns * calls);
     int batches = fit > BATCHES_MAX ? BATCHES_MAX : fit < 1 ? 1 : (int)fit;
-    for (int r = 0; r < ROUNDS; r++) run_round(all, n, r, batches, calls);
+    for (int r = 0; r < ROUNDS; r++) {
+        double together = run_round(all, n, r, batches, calls);
+        if (r > 0 && together >= least) continue;
+        least = together;
+        for (int z = 0; z < n; z++) all[z].best = all[z].middle;
+    }
     for (int z = 0; z < n; z++) printf("%s %s %s %.2f\n", call, hot ? "hot" : "memory", all[z].name, all[z].best);
     fflush(stdout);
 }
 
+/* on huge pages, where the kernel gives them: on small ones the figures of scattered units change with the pages' places */
 uint8_t *room_for(size_t size) {
-    size = (size + PAGE - 1) / PAGE * PAGE;
-    uint8_t *room = aligned_alloc(PAGE, size);
+    size = (size + HUGE_PAGE - 1) / HUGE_PAGE * HUGE_PAGE;
+    uint8_t *room = aligned_alloc(HUGE_PAGE, size);
+    if (room) madvise(room, size, MADV_HUGEPAGE);
     if (!room) {
         fprintf(stderr, "bench: no memory for %zu bytes\n", size);
         exit(1);
@@ -92,7 +101,11 @@ __attribute__((target("clflushopt"))) void flush_bytes(const uint8_t *p, size_t 
 
 void flush_pages(void) {
     static uint8_t *elsewhere;
-    if (!elsewhere) elsewhere = room_for((size_t)PAGES * PAGE);
+    if (!elsewhere) {
+        elsewhere = room_for((size_t)PAGES * PAGE);
+        madvise(elsewhere, (size_t)PAGES * PAGE, MADV_NOHUGEPAGE);
+        madvise(elsewhere, (size_t)PAGES * PAGE, MADV_DONTNEED); /* what it holds next lies on small pages */
+    }
     for (size_t page = 0; page < PAGES; page++) sink += elsewhere[page * PAGE];
 }
 
@@ -113,7 +126,8 @@ size_t cache(int name) {
     return size > 0 ? (size_t)size : 0;
 }
 
+/* a last cache keeps part of what is not much larger than it */
 size_t beyond_caches(void) {
     size_t last = cache(_SC_LEVEL3_CACHE_SIZE);
-    return last + last / 8 > 256 * MB ? last + last / 8 : 256 * MB;
+    return 3 * last > 256 * MB ? 3 * last : 256 * MB;
 }

@@ -4,7 +4,7 @@
 
 #include "contest.h"
 
-enum { BATCHES_MAX = 400, PAGE = 4096, PAGES = 4096 };
+enum { BATCHES_MAX = 400, PAGE = 4096, PAGES = 4096, HUGE_PAGE = 2 << 20 };
 
 /* One contestant of a race: `refuse` makes the library's call one that is refused, `idle` leaves it out; other work comes after,
  * by `writes`, `differs`, `restores` or `codes`. `before` runs on the same arrays first, and is not timed. */
@@ -17,7 +17,7 @@ typedef struct contestant {
     restorer *restores;
     struct code *codes; /* of peers.c */
     const struct contestant *before;
-    double best;
+    double middle, best; /* the median of this round's batches, and that of the quietest round */
     double took[BATCHES_MAX];
 } contestant;
 
@@ -31,7 +31,7 @@ extern uint64_t sink; /* takes results, so that no work is dropped */
 /* prints "call memory|hot contestant ns" of one call for each contestant */
 void race(const char *call, contestant *all, int n, double seconds);
 
-/* memory of whole pages, set to zero */
+/* memory of whole huge pages, set to zero */
 uint8_t *room_for(size_t size);
 /* puts bytes out of all caches; a fence has to follow */
 void flush_bytes(const uint8_t *p, size_t n);

@@ -8,20 +8,20 @@ SIZES = (512, 4096)
 CASES = [(v, k, g, u) for v, k, g in ((7, 3, 3), (13, 4, 11), (21, 5, 11), (91, 10, 11)) for u in SIZES]
 LARGE = [(91, 10, 13, u) for u in SIZES]  # the rebuild alone
 LOSSES = ("one", "three", "2+1")
-ROUNDS = 7
+ROUNDS = 9
 C = {"passes": "same passes", "fused": "fused C", "isal": "ISA-L"}
 C_COPIED = {"passes": "same passes", "copied": "first copied", "fused": "fused C", "isal": "ISA-L"}
 
 ABOUT = f"""
 Ratios are C time over library time from one run: above 1 the library is the faster. "Same passes": one source a pass through a
 buffer, or into the restored unit; "fused": all units in one loop (`bench/contest.c`, gcc -O3, SSE2). From memory: arrays side
-by side, together larger than the last cache, visited in turn. Hot: one unit again and again, or one array where it fits the
-second cache. The contestants run in turn, batch by batch; the figure is the median batch of a round, in the best of {ROUNDS}
-rounds, in time of the thread. Before any timing the contestants are compared: equal arrays after equal writes and after equal
-losses, equal audits after flipped bytes. A share is the time that the bytes take at the memory limit over the call's time: for
-a write 4u bytes copied (it can pass 1: memcpy reads what it overwrites), for an audit the array read once (most of it is in two
-sets), for a rebuild each source on a present disk read once and each restored unit set once. Empty: not measured, or less than
-a twentieth of what was taken off.
+by side, together three times the last cache, on huge pages where the kernel gives them, visited in turn. Hot: one unit again
+and again, or one array where it fits the second cache. The contestants run in turn, batch by batch; the figure is the median
+batch of a round, in the quietest of {ROUNDS} rounds, in which all together took the least, in time of the thread. Before any
+timing the contestants are compared: equal arrays after equal writes and after equal losses, equal audits after flipped bytes. A
+share is the time that the bytes take at the memory limit over the call's time: for a write 4u bytes copied (it can pass 1:
+memcpy reads what it overwrites), for an audit the array read once (most of it is in two sets), for a rebuild each source on a
+present disk read once and each restored unit set once. Empty: not measured, or less than a twentieth of what was taken off.
 """
 WRITE = """
 Write of whole units at scattered user units, ns: an accepted write less the same call refused by the mark of its last disk. The C
@@ -46,9 +46,9 @@ LIMITS = "Memory limits, GB/s: what memcpy copies, memset sets and a loop reads 
 
 
 def fits(case, arrays=2, pools=1):
-    """Whether there is memory for a program's pools: each has so many arrays, and more than the last cache."""
+    """Whether there is memory for a program's pools: each has so many arrays, and three times the last cache."""
     v, k, g, u = case
-    pool = max(arrays * v * g * (v - 1) // (k - 1) * g * u, 1.13 * last_cache(), 2**28)
+    pool = max(arrays * v * g * (v - 1) // (k - 1) * g * u, 3 * last_cache(), 2**28)
     free = re.search(r"^MemAvailable:\s+(\d+) kB", Path("/proc/meminfo").read_text(), re.M)
     return not free or 1.1 * pools * pool < 1024 * int(free[1])
 
