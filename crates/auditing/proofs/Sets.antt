@@ -19,9 +19,9 @@ use Rattle.sets.specs.Starts.{regionStarts, RegionFits, RegionsFit, labelStarts
 use Rattle.sets.proofs.Starts.{label-length, diagonal-length, labels-inside, diagonals-inside, label-starts-are, diagonal-starts-are}
 use Rattle.finding.specs.declared.Found.{Found}
 use Rattle.finding.specs.Bad.{foundBelow, auditOf}
-use Rattle.finding.specs.Steps.{foundFrom}
+use Rattle.finding.specs.Steps.{after, foundFrom}
 use Rattle.auditing.specs.Steps.{labelZero, diagonalZero, outerZeros, innerZeros, tupleFound}
-use Rattle.finding.proofs.Steps.{from-none, from-bad, from-same, from-add, found, below-none, below-bad, below-from}
+use Rattle.finding.proofs.Steps.{from-none, from-bad, from-same, from-add, from-after, found, below-none, below-bad, below-from}
 
 -- ---- the starts of one set, once they are filled in
 module _ (G : Geometry) (s : Sound G) (xs : List ℕ) where
@@ -146,17 +146,18 @@ module _ (G : Geometry) (d a : List ℕ) (s : Sound G) (t : ℕ) (h : t < tuples
       whole : t * tupleSetsOf G + (G .g - 1) * G .g + G .k * G .g ≡ (t + 1) * tupleSetsOf G
       whole = tuple-whole G t
 
--- ---- a tuple's outer sets, then its inner ones
-pub found-bad : (z : ℕ → Bool) (f : Found) (s n : ℕ) (y : Found) → y ≡ foundFrom z f s n → f .bad ≤ s → y .bad ≤ s + n
-found-bad z f s n y e h = omega (arith, ap (λ (x : Found). x .bad) e, from-bad z f s n)
+-- ---- a tuple's outer sets, and its inner ones counted apart
+pub found-bad : (z : ℕ → Bool) (f : Found) (s n : ℕ) (y : Found) → y ≡ foundFrom z f s n → y .bad ≤ f .bad + n
+found-bad z f s n y e = omega (arith, ap (λ (x : Found). x .bad) e, from-bad z f s n)
 
 pub tuple-found :
     (G : Geometry) (ps a : List ℕ) (f : Found) (s : ℕ) (y z : Found)
     → y ≡ foundFrom (outerZeros G ps a) f s ((G .g - 1) * G .g)
-    → z ≡ foundFrom (innerZeros G ps a) y (s + (G .g - 1) * G .g) (G .k * G .g) → z ≡ tupleFound G ps a f s
+    → z ≡ foundFrom (innerZeros G ps a) (found 0 0) (s + (G .g - 1) * G .g) (G .k * G .g)
+    → after z y ≡ tupleFound G ps a f s
 unfolding tupleFound
 tuple-found G ps a f s y z e q =
-    q ∙ ap (λ (x : Found). foundFrom (innerZeros G ps a) x (s + (G .g - 1) * G .g) (G .k * G .g)) e
+    ap₂ after q e ∙ from-after (innerZeros G ps a) (foundFrom (outerZeros G ps a) f s ((G .g - 1) * G .g)) _ _
 
 pub tuple-regions :
     (G : Geometry) (ps qs a : List ℕ) (f : Found) (s : ℕ) (y : Found) → y ≡ tupleFound G ps a f s → ps ≡ qs → y ≡ tupleFound G qs a f s

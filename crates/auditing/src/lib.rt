@@ -111,15 +111,17 @@ fn audit_diagonals(
     found
 }
 
-// All sets of a tuple, from number s on: "(g-1)g + l·g + j for inner".
+// All sets of a tuple, from number s on: "(g-1)g + l·g + j for inner". The inner ones are read first: a region lies on g disks, a
+// row of labels on kg, and so many runs at once make a processor wait for memory.
 fn audit_sets(geometry: Geometry, array: &[u8], regions: &[usize], s: u32, before: Found) -> Found
     requires { ⌜ Sound geometry × (length (now array) ≡ bytesOf geometry) × RegionsFit geometry (now regions) ⌝ }
     requires { ⌜ (before .bad ≤ s) × (s + 286 ≤ 1200000) ⌝ }
     ensures { λ r. ⌜ r ≡ tupleFound geometry (now (regions .entry)) (now (array .entry)) before s ⌝ }
 {
+    let next = s + (geometry.g - 1) * geometry.g;
+    let inner = audit_diagonals(geometry, array, regions, next, Found { bad: 0, lowest: 0 });
     let outer = audit_labels(geometry, array, regions, s, before);
-    let inner = s + (geometry.g - 1) * geometry.g;
-    audit_diagonals(geometry, array, regions, inner, outer)
+    inner.after(outer)
 }
 
 // The same for the regions that the design gives the tuple. It is read here, once for each of them.

@@ -8,7 +8,7 @@ use native.Mathlib.Nat.{add-zero, add-suc, add-assoc}
 use native.Mathlib.Numerals.{add-one}
 use native.Mathlib.Omega.{arith}
 use lib.Dec.{ltb, eqb}
-use borrow.Author.Tests.{lt-ltb, le-ltb, ltb-true, ltb-false, eq-eqb, ne-eqb}
+use borrow.Author.Tests.{lt-ltb, le-ltb, ltb-true, ltb-false, eqb-true, eqb-false, eq-eqb, ne-eqb}
 use Rattle.counting.specs.Counting.{countBelow, lowest}
 use Rattle.counting.proofs.Bools.{bool-either, not-is-true, not-is-false}
 use Rattle.counting.proofs.Laws.{count-zero, count-le, count-more, count-same-more, count-none, count-lt, lowest-le, lowest-holds, lowest-before, lowest-is, lowest-none}
@@ -16,7 +16,7 @@ use Rattle.geometry.specs.declared.Geometry.{Geometry}
 use Rattle.consistent.specs.Consistent.{setZero}
 use Rattle.finding.specs.declared.Found.{Found}
 use Rattle.finding.specs.Bad.{badBelow, lowestBad, foundBelow}
-use Rattle.finding.specs.Steps.{withSet, foundFrom}
+use Rattle.finding.specs.Steps.{withSet, after, foundFrom}
 
 abbrev pub found : (bad lowest : ℕ) → Found
 found b l = record { bad = b; lowest = l }
@@ -63,6 +63,33 @@ from-add z f s m (suc n) =
     ∙ ap₂ (λ (x : Found) (q : ℕ). withSet x q (z (m + n))) (from-add z f s m n) (add-assoc s m n)
     ∙ sym (from-suc z f s (m + n))
     ∙ ap (foundFrom z f s) (sym (add-suc m n))
+
+-- ---- sets counted apart
+after-set : (f x : Found) (s : ℕ) (z : Bool) → after (withSet x s z) f ≡ withSet (after x f) s z
+after-set f x s true = refl
+after-set f x s false = go (bool-either (eqb (x .bad) 0))
+  where
+    more : eqb (x .bad + 1) 0 ≡ false
+    more = ne-eqb (x .bad + 1) 0 (λ (p : x .bad + 1 ≡ 0). omega arith)
+
+    go : (eqb (x .bad) 0 ≡ true) ⊎ (eqb (x .bad) 0 ≡ false) → after (withSet x s false) f ≡ withSet (after x f) s false
+    go (inl h) =
+        let e : x .bad ≡ 0 = eqb-true (x .bad) 0 h in
+        let n : f .bad + (x .bad + 1) ≡ f .bad + 1 = omega arith in
+        rw (more, h) (ap (λ (b : ℕ). found b (cond (eqb (f .bad) 0) s (f .lowest))) n)
+    go (inr h) =
+        let e : x .bad ≡ 0 → ⊥ = eqb-false (x .bad) 0 h in
+        let m : eqb (f .bad + x .bad) 0 ≡ false = ne-eqb (f .bad + x .bad) 0 (λ (p : f .bad + x .bad ≡ 0). e (omega arith)) in
+        rw (more, h, m) (ap (λ (b : ℕ). found b (cond (eqb (f .bad) 0) (x .lowest) (f .lowest))) (sym (add-assoc (f .bad) (x .bad) 1)))
+
+-- they may be counted from nothing, and then be added
+pub from-after : (z : ℕ → Bool) (f : Found) (s n : ℕ) → after (foundFrom z (found 0 0) s n) f ≡ foundFrom z f s n
+from-after z f s zero = ap (λ (x : Found). after x f) (from-none z (found 0 0) s) ∙ sym (from-none z f s)
+from-after z f s (suc n) =
+    ap (λ (x : Found). after x f) (from-suc z (found 0 0) s n)
+    ∙ after-set f (foundFrom z (found 0 0) s n) (s + n) (z n)
+    ∙ ap (λ (x : Found). withSet x (s + n) (z n)) (from-after z f s n)
+    ∙ sym (from-suc z f s n)
 
 -- ---- sets below a number
 module _ (b : ℕ → Bool) where

@@ -1,4 +1,4 @@
--- 01, "Calls" (audit): the count set by set, as the audit takes it: one set more, and some sets more from a number on.
+-- 01, "Calls" (audit): the count set by set, as the audit takes it: one set more, sets counted apart, and some sets more from a number on.
 -- Assumes nothing.
 use Prim.Native.Nat.{ℕ, zero, suc, _+_}
 use mathlib.Core.Bool.{Bool, true, false, cond}
@@ -9,6 +9,11 @@ use Rattle.finding.specs.declared.Found.{Found}
 abbrev pub withSet : Found → (s : ℕ) → (zero : Bool) → Found
 withSet f s true = f
 withSet f s false = record { bad = f .bad + 1; lowest = cond (eqb (f .bad) 0) s (f .lowest) }
+
+-- what is found with sets of lower numbers too, that were counted apart
+abbrev pub after : Found → (earlier : Found) → Found
+after x f =
+    cond (eqb (x .bad) 0) f (record { bad = f .bad + x .bad; lowest = cond (eqb (f .bad) 0) (x .lowest) (f .lowest) })
 
 -- what is found with n sets from number s on; zeros says which of them XOR to zero
 unfoldable pub foundFrom : (zeros : ℕ → Bool) → Found → (s n : ℕ) → Found

@@ -1,7 +1,7 @@
 // What an audit finds (01): "how many sets don't XOR to zero and the lowest such number, 0 if none", one set after the other.
-ghost use Prim.Native.Nat.{_≤_};
+ghost use Prim.Native.Nat.{_+_, _≤_};
 ghost use mathlib.Core.Path.{_≡_};
-ghost use Rattle.finding.specs.Steps.{withSet};
+ghost use Rattle.finding.specs.Steps.{withSet, after};
 
 pub struct Found {
     pub bad: u32,
@@ -23,6 +23,23 @@ impl Found {
         Found {
             bad: self.bad + 1,
             lowest: self.lowest,
+        }
+    }
+
+    // What is found with sets of lower numbers too, that were counted apart.
+    pub fn after(self, earlier: Found) -> Found
+        requires { ⌜ earlier .bad + self .bad ≤ 2000000 ⌝ }
+        ensures { λ r. ⌜ r ≡ after self earlier ⌝ }
+    {
+        if self.bad == 0 {
+            return earlier;
+        }
+        if earlier.bad == 0 {
+            return self;
+        }
+        Found {
+            bad: earlier.bad + self.bad,
+            lowest: earlier.lowest,
         }
     }
 }
