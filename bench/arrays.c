@@ -155,7 +155,7 @@ void run_audit(const contestant *me, uint32_t calls) {
     for (uint32_t i = 0; i < calls; i++) {
         const uint8_t *array = next_array();
         if (me->idle) {
-            sink += walk(&s, array, me->differs).bad;
+            sink += walk(&s, array, me->differs, me->inner_first).bad;
             continue;
         }
         himzolven_audit_answer a = call_audit(array, s.bytes - (size_t)me->refuse);

@@ -96,6 +96,7 @@ static contestant audit_race[] = {
     {.name = "refused", .run = run_audit, .refuse = 1},
     {.name = "library", .run = run_audit},
     {.name = "passes", .run = run_audit, .idle = 1, .differs = passes_differ},
+    {.name = "inner", .run = run_audit, .idle = 1, .differs = passes_differ, .inner_first = 1},
     {.name = "copied", .run = run_audit, .idle = 1, .differs = copied_differ},
     {.name = "fused", .run = run_audit, .idle = 1, .differs = fused_differ},
     ISAL_AUDIT
@@ -133,8 +134,10 @@ static void same_writes(writer *writes) {
 static void same_audits(tester *differs) {
     for (uint32_t i = 0; i < FLIPS; i++) pool[scattered(i + 1) % s.bytes] ^= 1;
     himzolven_audit_answer a = call_audit(pool, s.bytes);
-    found f = walk(&s, pool, differs);
-    if (a.refusal != 0 || a.bad == 0 || a.bad != f.bad || a.lowest != f.lowest) fail("the audits differ");
+    for (int inner_first = 0; inner_first < 2; inner_first++) {
+        found f = walk(&s, pool, differs, inner_first);
+        if (a.refusal != 0 || a.bad == 0 || a.bad != f.bad || a.lowest != f.lowest) fail("the audits differ");
+    }
 }
 
 static restorer *const restorers[] = {passes_restore, copied_restore, fused_restore,

@@ -43,23 +43,45 @@ static inline void diagonal_starts(const shape *s, size_t region, uint32_t j, si
         starts[i] = region + column * s->disk_bytes + (size_t)i * s->u;
 }
 
-/* the sets in their order */
-found walk(const shape *s, const uint8_t *array, tester *differs) {
+/* the labels of a tuple, from set `number` on */
+static found walk_labels(const shape *s, const uint8_t *array, const size_t *region, uint32_t number, tester *differs) {
     found r = {0, 0};
-    uint32_t g = s->g, k = s->k, number = 0;
-    size_t region[SOURCES_MAX], starts[SOURCES_MAX];
-    for (uint32_t t = 0; t < s->tuples; t++) {
+    size_t starts[SOURCES_MAX];
+    for (uint32_t i = 0; i + 1 < s->g; i++)
+        for (uint32_t c = 0; c < s->g; c++, number++) {
+            label_starts(s, region, i, c, starts);
+            if (differs(array, starts, s->k, s->u) && r.bad++ == 0) r.lowest = number;
+        }
+    return r;
+}
+
+/* its diagonals */
+static found walk_diagonals(const shape *s, const uint8_t *array, const size_t *region, uint32_t number, tester *differs) {
+    found r = {0, 0};
+    size_t starts[SOURCES_MAX];
+    for (uint32_t l = 0; l < s->k; l++)
+        for (uint32_t j = 0; j < s->g; j++, number++) {
+            diagonal_starts(s, region[l], j, starts);
+            if (differs(array, starts, s->g, s->u) && r.bad++ == 0) r.lowest = number;
+        }
+    return r;
+}
+
+static found after(found earlier, found later) {
+    found r = {earlier.bad + later.bad, earlier.bad ? earlier.lowest : later.lowest};
+    return r;
+}
+
+found walk(const shape *s, const uint8_t *array, tester *differs, int inner_first) {
+    found r = {0, 0}, inner = {0, 0};
+    uint32_t labels = (s->g - 1) * s->g, sets = labels + s->k * s->g, number = 0;
+    size_t region[SOURCES_MAX];
+    for (uint32_t t = 0; t < s->tuples; t++, number += sets) {
         region_starts(s, t, region);
-        for (uint32_t i = 0; i + 1 < g; i++)
-            for (uint32_t c = 0; c < g; c++, number++) {
-                label_starts(s, region, i, c, starts);
-                if (differs(array, starts, k, s->u) && r.bad++ == 0) r.lowest = number;
-            }
-        for (uint32_t l = 0; l < k; l++)
-            for (uint32_t j = 0; j < g; j++, number++) {
-                diagonal_starts(s, region[l], j, starts);
-                if (differs(array, starts, g, s->u) && r.bad++ == 0) r.lowest = number;
-            }
+        if (inner_first) inner = walk_diagonals(s, array, region, number + labels, differs);
+        found outer = walk_labels(s, array, region, number, differs);
+        if (!inner_first) inner = walk_diagonals(s, array, region, number + labels, differs);
+        r = after(after(r, outer), inner);
     }
     return r;
 }

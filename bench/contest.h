@@ -38,7 +38,8 @@ typedef int tester(const uint8_t *array, const size_t *starts, size_t count, siz
 typedef void restorer(uint8_t *array, size_t target, const size_t *sources, size_t count, size_t u);
 
 places places_of(const shape *s, uint32_t user);
-found walk(const shape *s, const uint8_t *array, tester *differs);
+/* the sets tuple by tuple, of each by number, or the inner ones first */
+found walk(const shape *s, const uint8_t *array, tester *differs, int inner_first);
 /* In two phases: whether every tuple completes, from the marks alone; then, tuple by tuple, the bytes, by a log of the passes. */
 rebuilt rebuild(const shape *s, uint8_t *array, uint8_t *marks, restorer *restores);
 /* makes every parity unit what its set asks */

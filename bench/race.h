@@ -7,11 +7,12 @@
 enum { BATCHES_MAX = 400, PAGE = 4096, PAGES = 4096, HUGE_PAGE = 2 << 20 };
 
 /* One contestant of a race: `refuse` makes the library's call one that is refused, `idle` leaves it out; other work comes after,
- * by `writes`, `differs`, `restores` or `codes`. `before` runs on the same arrays first, and is not timed. */
+ * by `writes`, `differs` (with `inner_first` a tuple's inner sets first), `restores` or `codes`. `before` runs on the same arrays
+ * first, and is not timed. */
 typedef struct contestant {
     const char *name;
     void (*run)(const struct contestant *, uint32_t calls);
-    int refuse, idle;
+    int refuse, idle, inner_first;
     writer *writes;
     tester *differs;
     restorer *restores;

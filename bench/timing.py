@@ -11,6 +11,7 @@ LOSSES = ("one", "three", "2+1")
 ROUNDS = 9
 C = {"passes": "same passes", "fused": "fused C", "isal": "ISA-L"}
 C_COPIED = {"passes": "same passes", "copied": "first copied", "fused": "fused C", "isal": "ISA-L"}
+C_AUDIT = {"passes": "same passes", "inner": "inner sets first", "copied": "first copied", "fused": "fused C", "isal": "ISA-L"}
 
 ABOUT = f"""
 Ratios are C time over library time from one run: above 1 the library is the faster. "Same passes": one source a pass through a
@@ -29,7 +30,10 @@ contestants run after that refused call, and it is taken off them too.
 """
 AUDIT = """
 Audit of a formatted array, us, the design check included. C is given the places and checks nothing. Same passes: the buffer is
-cleared, then every unit of a set is XORed into it; "first copied": the first unit is copied in instead, a pass fewer.
+cleared, then every unit of a set is XORed into it; "first copied": the first unit is copied in instead, a pass fewer. C goes
+through the sets by number, a tuple's outer ones first; the library reads its inner ones first, and "inner sets first" is C with
+the same passes in that order. (A region's bytes lie in g runs, a row of labels in kg: at v = 91, g = 11 that is 110, more than a
+processor follows ahead.)
 """
 REBUILD = """
 Rebuild of one disk, of three disks of one group, and of two of one group and one of another, us, the design check included. C
@@ -129,7 +133,7 @@ def write_row(c):
 
 def audit_row(c):
     row = [f"{c.ns('audit', 'memory', n) / 1000:.1f}" for n in ("library", "refused")]
-    return row + c.ratios("audit", "memory", C_COPIED) + [shown(c.share("audit"))] + c.ratios("audit", "hot", C_COPIED)
+    return row + c.ratios("audit", "memory", C_AUDIT) + [shown(c.share("audit"))] + c.ratios("audit", "hot", C_AUDIT)
 
 
 def rebuild_row(c):
@@ -176,13 +180,13 @@ def split(told):
 
 
 def report(told):
-    c, d = list(C.values()), list(C_COPIED.values())
+    c, d, e = list(C.values()), list(C_COPIED.values()), list(C_AUDIT.values())
     cases, losses = split(told)
     out = [prose(ABOUT)]
     if len(told) < len(CASES + LARGE):
         out += ["", "The largest arrays are left out: they need more memory than there was."]
     out += part(WRITE, ["refused call", "write"] + c + ["share of memcpy", "hot: write"] + c, write_row, cases)
-    out += part(AUDIT, ["audit", "check in it"] + d + ["share of read", "hot: " + d[0]] + d[1:], audit_row, cases)
+    out += part(AUDIT, ["audit", "check in it"] + e + ["share of read", "hot: " + e[0]] + e[1:], audit_row, cases)
     out += part(REBUILD, ["rebuild", "check in it"] + d + ["share of the limit", "hot: " + d[0]] + d[1:], rebuild_row, losses)
     out += part(FORMAT, ["format", "check in it", "memset", "share of memset", "hot: memset"], format_row, cases)
     out += part(READ, ["refused call", "read", "memcpy", "share of read", "hot: read", "memcpy"], read_row, cases)
