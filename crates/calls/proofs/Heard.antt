@@ -58,9 +58,10 @@ pub settle-heard :
     ((r : R) (l : L) → Allowed r l → Front o (refusal r) (place r)) →
     ((r : R) (l : L) → Allowed r l → held l ≡ kept o new (held before)) →
     ((r s : R) (l m : L) → Allowed r l → Allowed s m → r ≡ s) →
-    Refuses applies rows (λ (r : R). heard (refusal r) (place r) r) held before Allowed
+    Refuses (Unit {0}) applies rows (λ (r : R). heard (refusal r) (place r) r) held before Allowed
 settle-heard applies rows refusal place held before Allowed o new numbers some told front left same =
     record {
+      takes = tt;
       numbers = numbers;
       answers = some;
       exact = λ r l a. heard-exact rows (refusal r) (place r) r (told r l a);
@@ -73,9 +74,10 @@ pub settle-heard-alone :
     {R : Type 0} (applies : List ℕ) (rows : List Row) (refusal place : R → ℕ) (Allowed : R → Type 0) →
     numbersOf rows ≡ applies → (r : R) × Allowed r → ((r : R) → Allowed r → Told rows (refusal r) (place r)) →
     ((r s : R) → Allowed r → Allowed s → r ≡ s) →
-    Refuses applies rows (λ (r : R). heard (refusal r) (place r) r) nothing tt (λ r l. Allowed r)
+    Refuses (Unit {0}) applies rows (λ (r : R). heard (refusal r) (place r) r) nothing tt (λ r l. Allowed r)
 settle-heard-alone applies rows refusal place Allowed numbers some told same =
     record {
+      takes = tt;
       numbers = numbers;
       answers = (some .0, tt, some .1);
       exact = λ r l a. heard-exact rows (refusal r) (place r) r (told r a);

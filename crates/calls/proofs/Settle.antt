@@ -1,4 +1,4 @@
--- From what a contract says of the answer and of the lists at return to the five parts of `Refuses`. Assumes nothing.
+-- From what a contract says of the answer and of the lists at return to the six parts of `Refuses`. Assumes nothing.
 use Prim.Native.Nat.{ℕ}
 use mathlib.Core.Path.{_≡_, refl, sym, ap₂, _∙_}
 use mathlib.Core.List.{List, []}
@@ -14,9 +14,10 @@ pub settle :
     (Allowed : R → L → Type 0) (o : Outcome A) (new : H) → numbersOf rows ≡ applies → Exact rows o →
     (r : R) × (l : L) × Allowed r l → ((r : R) (l : L) → Allowed r l → outcome r ≡ o) →
     ((r : R) (l : L) → Allowed r l → held l ≡ kept o new (held before)) →
-    ((r s : R) → outcome r ≡ outcome s → r ≡ s) → Refuses applies rows outcome held before Allowed
+    ((r s : R) → outcome r ≡ outcome s → r ≡ s) → Refuses (Unit {0}) applies rows outcome held before Allowed
 settle applies rows outcome held before Allowed o new numbers E some says left same =
     record {
+      takes = tt;
       numbers = numbers;
       answers = some;
       exact = λ r l a. rw (says r l a) E;
@@ -28,9 +29,10 @@ settle applies rows outcome held before Allowed o new numbers E some says left s
 pub settle-alone :
     {R A : Type 0} (applies : List ℕ) (rows : List Row) (outcome : R → Outcome A) (Allowed : R → Type 0) (o : Outcome A) →
     numbersOf rows ≡ applies → Exact rows o → (r : R) × Allowed r → ((r : R) → Allowed r → outcome r ≡ o) →
-    ((r s : R) → outcome r ≡ outcome s → r ≡ s) → Refuses applies rows outcome nothing tt (λ r l. Allowed r)
+    ((r s : R) → outcome r ≡ outcome s → r ≡ s) → Refuses (Unit {0}) applies rows outcome nothing tt (λ r l. Allowed r)
 settle-alone applies rows outcome Allowed o numbers E some says same =
     record {
+      takes = tt;
       numbers = numbers;
       answers = (some .0, tt, some .1);
       exact = λ r l a. rw (says r a) E;
@@ -41,9 +43,10 @@ settle-alone applies rows outcome Allowed o numbers E some says same =
 -- a method that refuses nothing
 pub settle-free :
     {R : Type 0} (Allowed : R → Type 0) → (r : R) × Allowed r → ((r s : R) → Allowed r → Allowed s → r ≡ s) →
-    Refuses [] [] always nothing tt (λ r l. Allowed r)
+    Refuses (Unit {0}) [] [] always nothing tt (λ r l. Allowed r)
 settle-free Allowed some same =
     record {
+      takes = tt;
       numbers = refl;
       answers = (some .0, tt, some .1);
       exact = λ r l a. free r;

@@ -1,5 +1,5 @@
--- 00, demand 1, of one call at given arguments: "It refuses by a numbered reason exactly when our rules give that reason. A
--- refusal alters no lent byte." Assumes nothing.
+-- 00, demand 1, of one call at given arguments: it "takes any design list, sizes, marks and bytes .. It refuses by a numbered
+-- reason exactly when our rules give that reason. A refusal alters no lent byte." Assumes nothing.
 use Prim.Native.Nat.{ℕ}
 use mathlib.Core.Path.{_≡_}
 use mathlib.Core.List.{List, [], _∷_}
@@ -29,13 +29,15 @@ both l = (now (l .0), now (l .1))
 abbrev pub always : {R : Type 0} → R → Outcome R
 always r = accepted r
 
--- `applies`: the numbers of 01 that apply to the call. `rows`: these rows of 01's table, in words. `outcome`: 01's number and
+-- `Asked`: what the call's contract asks of its arguments. `applies`: the numbers of 01 that apply to the call. `rows`: these rows of 01's table, in words. `outcome`: 01's number and
 -- place in an answer. `held`: what the lent lists hold that the call may change, `before` as they are lent. `Allowed`: what the
 -- call's contract allows to be answered, and to be left in those lists
 pub record Refuses
-    {R A L H : Type 0} (applies : List ℕ) (rows : List Row) (outcome : R → Outcome A) (held : L → H) (before : L)
+    {R A L H : Type 0} (Asked : Type 0) (applies : List ℕ) (rows : List Row) (outcome : R → Outcome A) (held : L → H) (before : L)
     (Allowed : R → L → Type 0) : Type 0
   where
+    -- "takes any design list, sizes, marks and bytes": the contract asks nothing that is not so
+    pub takes : Asked
     -- "Tested in this order, those that apply to a call"
     pub numbers : numbersOf rows ≡ applies
     -- some answer is allowed, so that nothing below is empty
