@@ -14,6 +14,7 @@ PROGRAMS = {
     "calls": ["plain", "arrays", "race", "contest"],
     "bytes": ["arrays", "race", "contest"],
     "peers": ["arrays", "race", "contest"],
+    "runs": ["race", "contest"],
 }
 
 

@@ -16,7 +16,7 @@ int hot;
 uint64_t turn, sink;
 
 /* of this thread, so that time given to other programs does not count */
-static double now(void) {
+double thread_ns(void) {
     struct timespec t;
     clock_gettime(CLOCK_THREAD_CPUTIME_ID, &t);
     return (double)t.tv_sec * 1e9 + (double)t.tv_nsec;
@@ -28,9 +28,9 @@ static double timed(const contestant *c, uint32_t calls) {
         c->before->run(c->before, calls);
         turn = first;
     }
-    double from = now();
+    double from = thread_ns();
     c->run(c, calls);
-    return (now() - from) / calls;
+    return (thread_ns() - from) / calls;
 }
 
 static int by_size(const void *a, const void *b) {
@@ -61,8 +61,8 @@ void race(const char *call, contestant *all, int n, double seconds) {
     double turn_ns = 0, slowest = 0, least = 0;
     for (int c = 0; c < n; c++) {
         timed(&all[c], 1);
-        double from = now(), t = timed(&all[c], 1);
-        turn_ns += now() - from;
+        double from = thread_ns(), t = timed(&all[c], 1);
+        turn_ns += thread_ns() - from;
         if (t > slowest) slowest = t;
     }
     uint32_t calls = 3e5 / slowest > CALLS_MAX ? CALLS_MAX : 3e5 / slowest < 1 ? 1 : (uint32_t)(3e5 / slowest);

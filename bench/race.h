@@ -29,6 +29,8 @@ extern uint64_t sink; /* takes results, so that no work is dropped */
 #define COUNT(all) (int)(sizeof all / sizeof all[0])
 #define RACE(call, all, seconds) race(call, all, COUNT(all), seconds)
 
+/* time of this thread */
+double thread_ns(void);
 /* prints "call memory|hot contestant ns" of one call for each contestant */
 void race(const char *call, contestant *all, int n, double seconds);
 

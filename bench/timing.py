@@ -32,8 +32,12 @@ AUDIT = """
 Audit of a formatted array, us, the design check included. C is given the places and checks nothing. Same passes: the buffer is
 cleared, then every unit of a set is XORed into it; "first copied": the first unit is copied in instead, a pass fewer. C goes
 through the sets by number, a tuple's outer ones first; the library reads its inner ones first, and "inner sets first" is C with
-the same passes in that order. (A region's bytes lie in g runs, a row of labels in kg: at v = 91, g = 11 that is 110, more than a
-processor follows ahead.)
+the same passes in that order.
+"""
+RUNS = """
+Why inner sets first: a region's bytes lie in g runs, one a disk, and a row of labels in kg, which is 110 at v = 91, g = 11. What is
+read first comes from memory; the second time a tuple of 512-byte units is in the second cache. ns for each byte that is read
+from memory row by row, 512 bytes of each run, by the number of runs (`bench/runs.c`, fused C):
 """
 REBUILD = """
 Rebuild of one disk, of three disks of one group, and of two of one group and one of another, us, the design check included. C
@@ -179,14 +183,20 @@ def split(told):
     return [x for x in told if not x.large], [Loss(x, lost) for x in told for lost in LOSSES]
 
 
-def report(told):
+def in_runs(say):
+    """What reading takes as the number of runs grows."""
+    told = figures(say("target/runs"))
+    return ["", prose(RUNS), "", *table(["runs", *(n for _, _, n in told)], [["ns", *(f"{ns:.3f}" for ns in told.values())]])]
+
+
+def report(told, runs):
     c, d, e = list(C.values()), list(C_COPIED.values()), list(C_AUDIT.values())
     cases, losses = split(told)
     out = [prose(ABOUT)]
     if len(told) < len(CASES + LARGE):
         out += ["", "The largest arrays are left out: they need more memory than there was."]
     out += part(WRITE, ["refused call", "write"] + c + ["share of memcpy", "hot: write"] + c, write_row, cases)
-    out += part(AUDIT, ["audit", "check in it"] + e + ["share of read", "hot: " + e[0]] + e[1:], audit_row, cases)
+    out += part(AUDIT, ["audit", "check in it"] + e + ["share of read", "hot: " + e[0]] + e[1:], audit_row, cases) + runs
     out += part(REBUILD, ["rebuild", "check in it"] + d + ["share of the limit", "hot: " + d[0]] + d[1:], rebuild_row, losses)
     out += part(FORMAT, ["format", "check in it", "memset", "share of memset", "hot: memset"], format_row, cases)
     out += part(READ, ["refused call", "read", "memcpy", "share of read", "hot: read", "memcpy"], read_row, cases)
