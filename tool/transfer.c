@@ -35,18 +35,19 @@ static int refused(const image *opened, piece asked, himzolven_answer answer) {
     return tell_refusal(&opened->geometry, &words, answer.refusal, answer.place);
 }
 
-/* Whether the library would take the whole stream; nothing is stored. */
+/* Whether the library would take the whole stream; nothing is stored. A signal to end leaves the rest unasked. */
 static int try_stream(image *opened, enum access access, uint64_t at, uint64_t length) {
-    for (uint64_t done = 0; done < length && !work_stopped();) {
-        piece next = piece_at(opened, at + done, length - done);
-        himzolven_answer answer = access == TO_STORE ? try_write(opened, next.user_unit, next.offset, next.length)
-                                                     : try_read(opened, next.user_unit, next.offset, next.length);
-        if (answer.refusal != HIMZOLVEN_ACCEPTED) {
-            return refused(opened, next, answer);
-        }
-        done += next.length;
+    himzolven_answer answer = {HIMZOLVEN_ACCEPTED, 0};
+    piece next = {0, 0, 0};
+    work_begin(length, "asking about user bytes from %" PRIu64 " on", at);
+    for (uint64_t done = 0; answer.refusal == HIMZOLVEN_ACCEPTED && done < length && !work_stopped(); done += next.length) {
+        work_at(done);
+        next = piece_at(opened, at + done, length - done);
+        answer = access == TO_STORE ? try_write(opened, next.user_unit, next.offset, next.length)
+                                    : try_read(opened, next.user_unit, next.offset, next.length);
     }
-    return EXIT_DONE;
+    work_end();
+    return answer.refusal != HIMZOLVEN_ACCEPTED ? refused(opened, next, answer) : EXIT_DONE;
 }
 
 /* Fills the buffer from stdin, up to its end or the input's. -1: an error, or a signal to end. */
@@ -212,20 +213,21 @@ int run_write(char **words) {
 
 static int read_stream(image *opened, uint64_t at, uint64_t length) {
     uint8_t bytes[U_MAX];
+    uint64_t done = 0;
     int code = try_stream(opened, TO_READ, at, length);
     work_begin(length, "reading %" PRIu64 " user bytes from %" PRIu64 " on", length, at);
-    for (uint64_t done = 0; code == EXIT_DONE && done < length;) {
+    while (code == EXIT_DONE && done < length && !work_stopped()) {
         piece next = piece_at(opened, at + done, length - done);
         himzolven_answer answer = array_read(opened, next.user_unit, next.offset, bytes, (size_t)next.length);
         code = answer.refusal != HIMZOLVEN_ACCEPTED ? refused(opened, next, answer) : give(bytes, (size_t)next.length);
-        if (work_stopped()) {
-            complain("stopped by a signal");
-            code = EXIT_INTERRUPTED;
-        }
         done += next.length;
         work_at(done);
     }
     work_end();
+    if (code == EXIT_DONE && done < length) {
+        complain("stopped by a signal");
+        code = EXIT_INTERRUPTED;
+    }
     return code;
 }
 

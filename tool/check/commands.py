@@ -2,9 +2,10 @@
 import os
 import re
 import select
+import signal
 from subprocess import PIPE
 
-from desk import BAD_SETS, HELD_BACK, IMAGE, REFUSED, USAGE, State, expect, wait_until, with_states
+from desk import BAD_SETS, HELD_BACK, IMAGE, INTERRUPTED, REFUSED, USAGE, State, expect, wait_until, with_states
 
 COMMANDS = "create status write read fail plan rebuild recover audit refusals".split()
 F_ROWS = ["0 2 6", "0 1 3", "1 2 4", "2 3 5", "3 4 6", "0 4 5", "1 5 6"]
@@ -173,4 +174,22 @@ def progress(desk):
     expect(re.fullmatch(rf"{what} \.\.\n{what}: took \d+\.\d s\n", quiet.decode()), f"to a file: {quiet}")
 
 
-CHECKS = [helps, wrong_lines, design_refusals, call_refusals, plans, status_words, progress]
+def asking(desk):
+    """A stream is asked about first; if that takes a second it is told, and a signal then ends it before a byte is read."""
+    path, rows = desk.path("pairs.img"), desk.path("rows.txt")
+    rows.write_text("".join(f"{a} {b}\n" for b in range(91) for a in range(b)))
+    desk.run("create", path, "--groups", 91, "--disks-per-group", 13, "--unit", 1, "--design", rows)
+    reader = desk.start("read", path, "--at", 0, stdout=PIPE, stderr=PIPE)
+    try:
+        expect(select.select([reader.stderr], [], [], 5)[0], "of a long stream nothing is told")
+        told = reader.stderr.readline()
+        expect(told == b"himzolven: asking about user bytes from 0 on ..\n", f"of a long stream is told: {told}")
+        reader.send_signal(signal.SIGINT)
+        expect(reader.stdout.read(1) == b"", "SIGINT: a byte is read after it")
+        error = reader.communicate(timeout=20)[1].decode()
+        expect(reader.returncode == INTERRUPTED and "stopped by a signal" in error, f"SIGINT: {reader.returncode}, {error}")
+    finally:
+        reader.kill()
+
+
+CHECKS = [helps, wrong_lines, design_refusals, call_refusals, plans, status_words, progress, asking]
