@@ -1,6 +1,9 @@
 /* himzolven: keeps a disk array with the OI-RAID layout in one file. */
+#include <errno.h>
+#include <fcntl.h>
 #include <stdio.h>
 #include <string.h>
+#include <unistd.h>
 
 #include "commands.h"
 #include "exits.h"
@@ -61,7 +64,22 @@ static int run(int count, char **words) {
     return dispatch(words[1], words + 2);
 }
 
+/* A stream that is closed would lend its number to the image, and words for it would be stored there. It gets a file instead
+ * that can't be used, so that its use still fails. */
+static bool streams_taken(void) {
+    for (int stream = STDIN_FILENO; stream <= STDERR_FILENO; stream++) {
+        bool closed = fcntl(stream, F_GETFD) < 0 && errno == EBADF;
+        if (closed && open("/dev/null", stream == STDIN_FILENO ? O_WRONLY : O_RDONLY) != stream) {
+            return false;
+        }
+    }
+    return true;
+}
+
 int main(int count, char **words) {
+    if (!streams_taken()) {
+        return EXIT_IMAGE;
+    }
     work_signals();
     int code = run(count, words);
     if (fflush(stdout) != 0 || ferror(stdout)) {

@@ -26,6 +26,7 @@ FAULTS = [
     ("image.c", "copy.sequence > opened->state.sequence", "copy.sequence < opened->state.sequence", images.one_copy),
     ("image.c", "access == TO_STORE ? LOCK_EX : LOCK_SH", "access == TO_READ ? LOCK_EX : LOCK_SH", images.locks),
     ("create.c", "    unlink(new);\n", "", images.creation),
+    ("main.c", "if (!streams_taken()) {", "if (false && !streams_taken()) {", images.closed_streams),
     ("work.c", "terminal ? \"\\r\" : \" ..\\n\"", "terminal ? \"\\n\" : \" ..\\n\"", commands.progress),
     ("work.c", "    stopped = 1;", "    _exit(7);", images.interrupted),
     ("cutoff.c", "size_t kept = 0; kept < PLACES", "size_t kept = 1; kept < PLACES", cutoffs.torn_writes),

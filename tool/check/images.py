@@ -1,12 +1,13 @@
 """Files that are no image, locks, and how an image comes into being."""
 import fcntl
+import os
 import random
 import signal
 import struct
 from subprocess import PIPE
 
-from desk import (ARRAY, DONE, HEADER, HELD_BACK, IMAGE, IN_USE, INTERRUPTED, STATE, WRITE, State, expect, header_of, wait_until,
-                  with_states)
+from desk import (ARRAY, DONE, HEADER, HELD_BACK, IMAGE, IN_USE, INTERRUPTED, REFUSED, STATE, USAGE, WRITE, State, expect,
+                  header_of, wait_until, with_states)
 
 PIPES = {"stdin": PIPE, "stdout": PIPE, "stderr": PIPE}
 LOOKS = [["status"], ["read", "--unit", 0], ["plan", 0], ["audit"]]
@@ -155,6 +156,24 @@ def shrunk(desk):
     expect(State.of(path.read_bytes()).call == WRITE, "a shorter file: no record is left")
 
 
+def closed_streams(desk):
+    """A standard stream that is closed: the image is not taken for it, so no words get into it."""
+    path = desk.create("closed.img", 7, 3, 512)
+    before = path.read_bytes()
+    cases = [
+        ("write, no input", 0, ["write", path, "--at", 0], IMAGE),
+        ("plan, no output", 1, ["plan", path, 9, "--lines"], IMAGE),
+        ("read, no output", 1, ["read", path, "--at", 0], IMAGE),
+        ("refused, nowhere to say so", 2, ["fail", path, 0, 1, 3, 4], REFUSED),
+        ("wrong words, nowhere to say so", 2, ["write", path], USAGE),
+    ]
+    for what, stream, words, code in cases:
+        tool = desk.start(*words, **PIPES, preexec_fn=lambda: os.close(stream))
+        tool.communicate(timeout=20)
+        expect(path.read_bytes() == before, f"{what}: it gets into the image")
+        expect(tool.returncode == code, f"{what}: exit code {tool.returncode}, not {code}")
+
+
 def is_free(file):
     try:
         fcntl.flock(file, fcntl.LOCK_SH | fcntl.LOCK_NB)
@@ -164,4 +183,4 @@ def is_free(file):
     return True
 
 
-CHECKS = [wrong_images, one_copy, locks, creation, interrupted, shrunk]
+CHECKS = [wrong_images, one_copy, locks, creation, interrupted, shrunk, closed_streams]
