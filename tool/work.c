@@ -90,6 +90,7 @@ void work_signals(void) {
     handle(SIGTERM, note_stop, 0);
     handle(SIGHUP, note_stop, 0);
     handle(SIGPIPE, SIG_IGN, 0);
+    handle(SIGXFSZ, SIG_IGN, 0);
     handle(SIGBUS, disk_failed, 0);
     handle(SIGALRM, tick, SA_RESTART);
 }

@@ -5,7 +5,8 @@
 #include <stdbool.h>
 #include <stdint.h>
 
-/* Notes SIGINT, SIGTERM and SIGHUP, turns off SIGPIPE, and ends with words when the disk under the map fails (SIGBUS). */
+/* Notes SIGINT, SIGTERM and SIGHUP, turns off SIGPIPE and SIGXFSZ (what they tell comes back as an error, too), and ends with
+ * words when the disk under the map fails (SIGBUS). */
 void work_signals(void);
 
 /* A signal to end has come. */

@@ -29,6 +29,7 @@ FAULTS = [
     ("main.c", "if (!streams_taken()) {", "if (false && !streams_taken()) {", images.closed_streams),
     ("work.c", "terminal ? \"\\r\" : \" ..\\n\"", "terminal ? \"\\n\" : \" ..\\n\"", commands.progress),
     ("work.c", "    stopped = 1;", "    _exit(7);", images.interrupted),
+    ("work.c", "handle(SIGXFSZ, SIG_IGN, 0);", "", images.too_large),
     ("cutoff.c", "size_t kept = 0; kept < PLACES", "size_t kept = 1; kept < PLACES", cutoffs.torn_writes),
     ("cutoff.c", "if (i != kept) {", "if (i != kept && i != 3) {", cutoffs.torn_writes),
     ("cutoff.c", "code == EXIT_DONE && opened", "code != EXIT_DONE && opened", cutoffs.torn_writes),

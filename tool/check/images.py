@@ -2,6 +2,7 @@
 import fcntl
 import os
 import random
+import resource
 import signal
 import struct
 from subprocess import PIPE
@@ -174,6 +175,17 @@ def closed_streams(desk):
         expect(tool.returncode == code, f"{what}: exit code {tool.returncode}, not {code}")
 
 
+def too_large(desk):
+    """The system allows no file as long as the image: it is said, and nothing is left."""
+    bound = 100_000
+    allowed = lambda: resource.setrlimit(resource.RLIMIT_FSIZE, (bound, bound))
+    words = ["create", desk.path("large.img"), "--groups", 7, "--disks-per-group", 3]
+    tool = desk.start(*words, **PIPES, preexec_fn=allowed)
+    error = tool.communicate(timeout=20)[1].decode()
+    expect(tool.returncode == IMAGE and "File too large" in error, f"too large a file: {tool.returncode}, {error}")
+    expect(not list(desk.directory.iterdir()), "too large a file: something is left")
+
+
 def is_free(file):
     try:
         fcntl.flock(file, fcntl.LOCK_SH | fcntl.LOCK_NB)
@@ -183,4 +195,4 @@ def is_free(file):
     return True
 
 
-CHECKS = [wrong_images, one_copy, locks, creation, interrupted, shrunk, closed_streams]
+CHECKS = [wrong_images, one_copy, locks, creation, interrupted, shrunk, closed_streams, too_large]
