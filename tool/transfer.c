@@ -257,8 +257,11 @@ int run_read(char **words) {
         return code;
     }
     warn_cut_off(&opened);
-    uint64_t at = options[AT].number, offset = options[OFFSET].number;
-    code = options[AT].given ? read_stream(&opened, at, length_asked(&options[LAST], image_user_bytes(&opened), at))
+    uint64_t at = options[AT].number, offset = options[OFFSET].number, end = image_user_bytes(&opened);
+    if (at > end && !options[LAST].given) {
+        end = at + 1; /* a byte that is not there: the library says so */
+    }
+    code = options[AT].given ? read_stream(&opened, at, length_asked(&options[LAST], end, at))
                              : read_unit(&opened, options[UNIT].number, offset,
                                          length_asked(&options[LAST], opened.geometry.u, offset));
     image_close(&opened);

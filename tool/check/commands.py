@@ -111,6 +111,7 @@ def call_refusals(desk):
         (["fail", path, 4294967295], r"number 9, place 0: there is no disk 4294967295"),
         (["read", path, "--unit", 84], r"number 10, place 0: there is no user unit 84; user units are 0 to 83"),
         (["read", path, "--at", 84 * 512, "--length", 1], r"number 10, place 0: there is no user unit 84"),
+        (["read", path, "--at", 84 * 512 + 1], r"number 10, place 0: there is no user unit 84"),
         (["write", path, "--unit", 84], r"number 10"),
         (["read", path, "--unit", 83, "--offset", 500, "--length", 13], r"number 11, place 0: 13 bytes from offset 500 leave"),
         (["read", path, "--unit", 83, "--offset", 513], r"number 11, place 0: 0 bytes from offset 513 leave"),
