@@ -5,7 +5,7 @@ library = target/lib/libhimzolven.a
 all:
 	scripts/library
 
-$(library):
+$(library): crates.txt $(shell find crates -name '*.rt' -o -name '*.antt')
 	scripts/library
 
 install: $(library)
