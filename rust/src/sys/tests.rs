@@ -152,6 +152,15 @@ fn every_fault_in_a_copy_is_found() {
     assert!(copies.len() > RUST.lines().count());
 }
 
+#[test]
+fn the_version_is_that_of_the_header() {
+    let number = |name: &str| {
+        let line = HEADER.lines().find_map(|line| line.strip_prefix(&format!("#define HIMZOLVEN_VERSION_{name} ")));
+        line.expect("the header has each number of its version").to_string()
+    };
+    assert_eq!(["MAJOR", "MINOR", "PATCH"].map(number).join("."), env!("CARGO_PKG_VERSION"));
+}
+
 /// Each of the header's refusals is the variant of that name and number, and has a place where the header's comment names one.
 #[test]
 fn the_refusals_are_those_of_the_header() {
