@@ -232,6 +232,18 @@ int image_map(image *opened, enum access access) {
     return EXIT_DONE;
 }
 
+/* A standard stream that is the image itself: what is read from it changes meanwhile, and what is told goes into it. */
+static int apart_from_streams(const image *opened, const struct stat *is) {
+    static const char *const why[] = {"it is the standard input too", "it is the standard output too", NULL};
+    for (int stream = STDERR_FILENO; stream >= STDIN_FILENO; stream--) {
+        struct stat other;
+        if (fstat(stream, &other) == 0 && other.st_dev == is->st_dev && other.st_ino == is->st_ino) {
+            return why[stream] ? no_image(opened, why[stream]) : EXIT_IMAGE;
+        }
+    }
+    return EXIT_DONE;
+}
+
 /* The length of a file that may be an image. */
 static int measure(image *opened) {
     struct stat is;
@@ -245,7 +257,7 @@ static int measure(image *opened) {
         return no_image(opened, "not an image: too short");
     }
     opened->map_bytes = (size_t)is.st_size;
-    return EXIT_DONE;
+    return apart_from_streams(opened, &is);
 }
 
 int image_open(image *opened, const char *path, enum access access) {

@@ -28,6 +28,7 @@ FAULTS = [
     ("image.c", "access == TO_STORE ? LOCK_EX : LOCK_SH", "access == TO_READ ? LOCK_EX : LOCK_SH", images.locks),
     ("create.c", "    unlink(new);\n", "", images.creation),
     ("main.c", "if (!streams_taken()) {", "if (false && !streams_taken()) {", images.closed_streams),
+    ("image.c", "return apart_from_streams(opened, &is);", "(void)apart_from_streams;\n    return EXIT_DONE;", images.own_stream),
     ("work.c", "terminal ? \"\\r\" : \" ..\\n\"", "terminal ? \"\\n\" : \" ..\\n\"", commands.progress),
     ("work.c", "    stopped = 1;", "    _exit(7);", images.interrupted),
     ("work.c", "handle(SIGXFSZ, SIG_IGN, 0);", "", images.too_large),

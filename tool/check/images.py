@@ -175,6 +175,20 @@ def closed_streams(desk):
         expect(tool.returncode == code, f"{what}: exit code {tool.returncode}, not {code}")
 
 
+def own_stream(desk):
+    """A standard stream that is the image itself: nothing is read from it and nothing gets into it."""
+    path = desk.create("own.img", 7, 3, 512)
+    before = path.read_bytes()
+    cases = [("stdin", ["write", path, "--at", 0]), ("stdout", ["read", path, "--at", 0]), ("stderr", ["fail", path, 0, 1, 3, 4])]
+    for stream, words in cases:
+        with open(path, "rb" if stream == "stdin" else "ab") as own:
+            tool = desk.start(*words, **{**PIPES, stream: own})
+            told = tool.communicate(timeout=20)[1]
+        expect(path.read_bytes() == before, f"{stream} is the image: it gets into it")
+        expect(tool.returncode == IMAGE, f"{stream} is the image: exit code {tool.returncode}")
+        expect(stream == "stderr" or b"too\n" in told, f"{stream} is the image: told is {told}")
+
+
 def too_large(desk):
     """The system allows no file as long as the image: it is said, and nothing is left."""
     bound = 100_000
@@ -195,4 +209,4 @@ def is_free(file):
     return True
 
 
-CHECKS = [wrong_images, one_copy, locks, creation, interrupted, shrunk, closed_streams, too_large]
+CHECKS = [wrong_images, one_copy, locks, creation, interrupted, shrunk, closed_streams, own_stream, too_large]
