@@ -1,4 +1,5 @@
--- 01, "Calls" (audit): the sets of a tuple as the audit goes through them. Assumes nothing.
+-- 01, "Calls" (audit): the sets of a tuple as the audit counts them: by number, in whatever order it reads them.
+-- Assumes nothing.
 use Prim.Native.Nat.{ℕ, _+_, _-_, _*_, _/_, _%_}
 use mathlib.Core.Bool.{Bool}
 use mathlib.Core.List.{List}
@@ -24,7 +25,8 @@ outerZeros G ps a x = labelZero G ps a (x / G .g) (x % G .g)
 abbrev pub innerZeros : Geometry → (ps a : List ℕ) → (x : ℕ) → Bool
 innerZeros G ps a x = diagonalZero G (getD ps (x / G .g) 0) a (x % G .g)
 
--- what is found with the sets of a tuple from number s on, the outer ones first: "plus (g-1)g .. for inner" [for 1 ≤ g]
+-- what is found with the sets of a tuple, numbered from s on; the outer ones have the lower numbers: "plus (g-1)g .. for inner"
+-- [for 1 ≤ g]
 unfoldable pub tupleFound : Geometry → (ps a : List ℕ) → Found → (s : ℕ) → Found
 tupleFound G ps a f s =
     foundFrom (innerZeros G ps a) (foundFrom (outerZeros G ps a) f s ((G .g - 1) * G .g)) (s + (G .g - 1) * G .g) (G .k * G .g)

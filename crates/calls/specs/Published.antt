@@ -33,7 +33,8 @@ unitOf G t l i c = record { 0 = ((t * (G .k - 1) + l) * (G .g - 1) + i) * G .g +
 abbrev pub columnAt : Geometry → (l i c : ℕ) → ℕ
 columnAt G l i c = (c + i * l) % G .g
 
--- "diagonal j of a region has the units of row i, column (i - j) mod g": j is the diagonal of row i and column x, where x < g
+-- "diagonal j of a region has the units of row i, column (i - j) mod g": j is the diagonal of row i and column x
+-- [for i < g and x < g]
 pub record Diagonal (G : Geometry) (i x j : ℕ) : Type 0 where
   pub low : j < G .g
   pub turned : (x + j) % G .g ≡ i
@@ -68,7 +69,7 @@ pub record PublishedPlaces (G : Geometry) (d : List ℕ) (t l i c : ℕ) (f : Fo
   pub both : InnerOf G d t (G .k - 1) i c (f .both)
 
 -- "The way back answers, for any disk and unit: user unit n; outer parity of (t,i,c); or inner parity of (t,l,j)": the place is
--- the published one of the role
+-- the published one of the role [for 1 ≤ k]
 abbrev pub PublishedRole : Geometry → List ℕ → Place → Role → Type 0
 PublishedRole G d p (User n) =
     (t : ℕ) × (l : ℕ) × (i : ℕ) × (c : ℕ) × UserIn G t l i c × (n ≡ unitOf G t l i c) × (p ≡ labelPlace G d t l i c)
@@ -84,7 +85,7 @@ Answers κs G design p ρ =
 abbrev pub AnswersInner : Lfts 1 → Geometry → Lent → (t l i c : ℕ) → Place → Type 0
 AnswersInner κs G design t l i c p = (j : ℕ) × Diagonal G i (columnAt G l i c) j × Answers κs G design p (inner t l j)
 
--- the way back of the four places
+-- the way back of the four places [for 1 ≤ k]
 pub record FourBack (κs : Lfts 1) (G : Geometry) (design : Lent) (t l i c : ℕ) (f : Four) : Type 0 where
   pub user : Answers κs G design (f .user) (User (unitOf G t l i c))
   pub outer : Answers κs G design (f .outer) (outer t i c)

@@ -12,7 +12,7 @@ abbrev pub numbersOf : List Row → List ℕ
 numbersOf [] = []
 numbersOf (x ∷ xs) = x .number ∷ numbersOf xs
 
--- a lent list; two of them; and what a call may change holds: one list (`now`), two (`both`) or none (`nothing`)
+-- a lent list; two of them; what the lists hold that a call may change: of one `now`, of two `both`, of none `nothing`
 abbrev pub Lent : Type 0
 Lent = RefT (List ℕ)
 
@@ -29,14 +29,14 @@ both l = (now (l .0), now (l .1))
 abbrev pub always : {R : Type 0} → R → Outcome R
 always r = accepted r
 
--- `Asked`: what the call's contract asks of its arguments. `applies`: the numbers of 01 that apply to the call. `rows`: these rows of 01's table, in words. `outcome`: 01's number and
--- place in an answer. `held`: what the lent lists hold that the call may change, `before` as they are lent. `Allowed`: what the
--- call's contract allows to be answered, and to be left in those lists
+-- `Asked`: what the call's contract asks of its arguments. `applies`: the numbers of 01 that apply to the call. `rows`: these rows
+-- of 01's table, in words. `outcome`: 01's number and place in an answer. `held`: what the lent lists hold that the call may
+-- change, `before` as they are lent. `Allowed`: what the call's contract allows to be answered, and to be left in those lists
 pub record Refuses
     {R A L H : Type 0} (Asked : Type 0) (applies : List ℕ) (rows : List Row) (outcome : R → Outcome A) (held : L → H) (before : L)
     (Allowed : R → L → Type 0) : Type 0
   where
-    -- "takes any design list, sizes, marks and bytes": the contract asks nothing that is not so
+    -- "takes any design list, sizes, marks and bytes": what the contract asks is so of these arguments, whatever they are
     pub takes : Asked
     -- "Tested in this order, those that apply to a call"
     pub numbers : numbersOf rows ≡ applies

@@ -1,4 +1,5 @@
-// What an audit finds (01): "how many sets don't XOR to zero and the lowest such number, 0 if none", one set after the other.
+// What an audit finds (01): "how many sets don't XOR to zero and the lowest such number, 0 if none": a set more, or sets of
+// lower numbers that were counted apart.
 ghost use Prim.Native.Nat.{_+_, _≤_};
 ghost use mathlib.Core.Path.{_≡_};
 ghost use Rattle.finding.specs.Steps.{withSet, after};
@@ -26,7 +27,7 @@ impl Found {
         }
     }
 
-    // What is found with sets of lower numbers too, that were counted apart.
+    // What is found with `earlier`, of sets that all have lower numbers, too.
     pub fn after(self, earlier: Found) -> Found
         requires { ⌜ earlier .bad + self .bad ≤ 2000000 ⌝ }
         ensures { λ r. ⌜ r ≡ after self earlier ⌝ }
