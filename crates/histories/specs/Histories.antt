@@ -41,7 +41,7 @@ pub data Event : Type 0 where
   asked : Event
   lost : Event
 
--- "The buffer holds disk 0 whole, then disk 1, and so on": the disk of byte p
+-- "The buffer holds disk 0 whole, then disk 1, and so on": the disk of byte p [for r, g and u of 1 or more]
 abbrev pub diskOf : Geometry → ℕ → ℕ
 diskOf G p = p / (unitsOf G * G .u)
 

@@ -18,7 +18,8 @@ use Rattle.histories.specs.Histories.{Event, formatted, wasRead, written
 abbrev pub holds : (n offset count m j : ℕ) → Bool
 holds n offset count m j = eqb n m && (leb offset j && ltb j (offset + count))
 
--- what is last written at byte j of user unit m with this event, where it was b before it
+-- what is last written at byte j of user unit m with this event, where it was b before it [j - o only where the write holds
+-- byte j, so o ≤ j]
 abbrev pub writtenBy : Event → (m j b : ℕ) → ℕ
 writtenBy (formatted Fine) m j b = 0
 writtenBy (formatted (Refused x)) m j b = b
