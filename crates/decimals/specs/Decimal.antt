@@ -18,7 +18,7 @@ abbrev pub Digits : List ℕ → Type 0
 Digits [] = Unit {0}
 Digits (x ∷ xs) = (isDigit x ≡ true) × Digits xs
 
--- the number that the digits stand for, where n was read before them
+-- the number that the digits, 48 to 57, stand for, where n was read before them [each 48 or more]
 unfoldable pub decimalFrom : ℕ → List ℕ → ℕ
 decimalFrom n [] = n
 decimalFrom n (x ∷ xs) = decimalFrom (n * 10 + (x - 48)) xs

@@ -40,7 +40,7 @@ fn put_line(out: &mut [u8], at: usize, x: u32, y: u32, z: u32) -> usize
     put_number(out, third, z, b'\n')
 }
 
-// "Prints one triple a line" (01): the lines of the list's triples, from the front of `out` on. Returns how many bytes they are;
+// 01: "prints one triple a line": the lines of the list's triples, from the front of `out` on. Returns how many bytes they are;
 // the rest of `out` stays.
 pub fn render(list: &[u32], out: &mut [u8]) -> usize
     requires { ⌜ length (linesOf (now list)) ≤ length (now out) ⌝ }

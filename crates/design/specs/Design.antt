@@ -11,7 +11,7 @@ use Rattle.counting.specs.Counting.{anyBelow}
 use Rattle.geometry.specs.declared.Geometry.{Geometry}
 use Rattle.geometry.specs.Geometry.{Sound, tuplesOf}
 
--- the group at position l of row t
+-- the group at position l of row t, and 0 past the end of the list (3 refuses such a list)
 unfoldable pub groupAt : ℕ → List ℕ → ℕ → ℕ → ℕ
 groupAt k d t l = getD d (t * k + l) 0
 

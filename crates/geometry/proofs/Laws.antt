@@ -160,7 +160,7 @@ has-divisor n g e p q s =
 pub no-divisor : (n g : ℕ) → noDivisorBelow n g ≡ true → NoDivisor n g
 no-divisor n g h e p q s = bool-not-both (noDivisorBelow n g) h (has-divisor n g e p q s)
 
--- "primality enters only at refusal 6": what the layout needs is less
+-- that g is prime is used at refusal 6 alone: what the layout needs is less
 pub prime-enough : (k g : ℕ) → noDivisorBelow g g ≡ true → k ≤ g → noDivisorBelow k g ≡ true
 prime-enough k g h l =
     no-divisors k g (λ (e : ℕ) (p : e < k) (q : 2 ≤ e) (s : g % e ≡ 0). no-divisor g g h e (omega arith) q s)

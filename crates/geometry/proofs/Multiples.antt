@@ -1,5 +1,5 @@
 -- The one fact of number theory that the layout needs of g and k (02, Ask 5): steps of d < k through the columns of a
--- group of g disks meet no column twice, from "no e with 2 ≤ e < k divides g" alone. No greatest common divisor is taken:
+-- group of g disks meet no column twice, from this alone, no e with 2 ≤ e < k divides g. No greatest common divisor is taken:
 -- what g divides after d it divides after g mod d, which is smaller. Assumes nothing.
 use Prim.Native.Nat.{ℕ, zero, suc, _+_, _-_, _*_, _/_, _%_, _≤_, _<_, _∣_}
 use mathlib.Core.Path.{_≡_, refl, sym, ap, _∙_}

@@ -72,8 +72,8 @@ pub record Limits (v k : ℕ) : Type 0 where
   pub k-high : k ≤ 10
   pub k-v : k ≤ v
 
--- what is known of a geometry that 2, 3 and 6 do not refuse; of its prime g only "no e with 2 ≤ e < k divides g" is kept
--- (02, Ask 5) [the differences by 1 from limits]
+-- what is known of a geometry that 2, 3 and 6 do not refuse; of its prime g only this is kept, no e with 2 ≤ e < k
+-- divides g (02, Ask 5) [the differences by 1 from limits]
 pub record Sound (G : Geometry) : Type 0 where
   pub limits : Limits (G .v) (G .k)
   pub r-whole : rOf (G .v) (G .k) * (G .k - 1) ≡ G .v - 1

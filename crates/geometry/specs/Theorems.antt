@@ -5,8 +5,8 @@ use mathlib.Core.Bool.{true}
 use Rattle.geometry.specs.declared.Geometry.{Geometry}
 use Rattle.geometry.specs.Geometry.{Sound, noDivisorBelow, rOf, bOf, disksOf, unitsOf, bytesOf}
 
--- all that the layout needs of g and k: for 0 < d < k, i·d and j·d differ modulo g for different i, j < g, from "no e with
--- 2 ≤ e < k divides g" alone (02, Ask 5) [1 ≤ g, from i < g]
+-- all that the layout needs of g and k: for 0 < d < k, i·d and j·d differ modulo g for different i, j < g, from this
+-- alone, no e with 2 ≤ e < k divides g (02, Ask 5) [1 ≤ g, from i < g]
 abbrev pub Multiples-differ : Type 0
 Multiples-differ =
     (g k : ℕ) → noDivisorBelow k g ≡ true → (d : ℕ) → 0 < d → d < k → (i j : ℕ) → i < g → j < g →

@@ -2,7 +2,7 @@
 ghost use mathlib.Core.Path.{_≡_};
 ghost use Rattle.geometry.specs.Geometry.{Limits, Sound, beyondLimits, rOf, bOf, whole, noDivisorBelow, sizesAllowed, disksOf, partsOf, unitsOf, tuplesOf, userUnitsOf, tupleSetsOf, setsOf, bytesOf};
 
-// "A disk number never stands where a unit number is meant" (01).
+// 01: "a disk number never stands where a unit number is meant".
 pub struct Disk(pub u32);
 
 pub struct Group(pub u32);

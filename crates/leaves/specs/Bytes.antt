@@ -17,11 +17,11 @@ xors [] ys = []
 xors (x ∷ xs) [] = x ∷ xs
 xors (x ∷ xs) (y ∷ ys) = bitXor x y ∷ xors xs ys
 
--- the n bytes from p
+-- the n bytes from p, fewer where the list ends before
 unfoldable pub run : List ℕ → (p n : ℕ) → List ℕ
 run a p n = take n (drop p a)
 
--- the list with the bytes of e XORed into it from p on
+-- the list with the bytes of e XORed into it from p on; those that would lie past its end are dropped
 unfoldable pub addAt : List ℕ → ℕ → List ℕ → List ℕ
 addAt a p e = take p a ++ xors (drop p a) e
 
@@ -42,7 +42,7 @@ written a p ps new = addAll a (p ∷ ps) (differenceAt a p new)
 unfoldable pub laid : ℕ → List ℕ → ℕ → ℕ
 laid p e i = getD (replicate p 0 ++ e) i 0
 
--- the XOR of the bytes at offset i of the runs that start at the positions
+-- the XOR of the bytes at offset i of the runs that start at the positions; past the end of the list a byte counts as 0
 unfoldable pub sumAt : List ℕ → List ℕ → ℕ → ℕ
 sumAt a [] i = 0
 sumAt a (p ∷ ps) i = bitXor (getD a (p + i) 0) (sumAt a ps i)

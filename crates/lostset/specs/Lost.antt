@@ -26,7 +26,8 @@ marked flags disk = set flags disk true
 abbrev pub cleared : List Bool → (disk : ℕ) → List Bool
 cleared flags disk = set flags disk false
 
--- "marks are one byte a disk, 0 present and 1 lost"
+-- "marks are one byte a disk, 0 present and 1 lost": the disks whose mark is 1, and no other. A disk past the end of the marks is
+-- not in the set, and a mark past the last flag is not looked at
 unfoldable pub flagsOf : (marks : List ℕ) → List Bool
 flagsOf marks = map (λ (mark : ℕ). eqb mark 1) (listOf (λ (x : ℕ). getD marks x 0) disksMost)
 

@@ -18,7 +18,7 @@ abbrev pub SomeRest : (R : ℕ → Type 0) → List Side → Type 0
 SomeRest R [] = ⊥
 SomeRest R (v ∷ vs) = Rest R v ⊎ SomeRest R vs
 
--- R holds the cells present from the start and is closed under "a set that lacks only it"
+-- R holds the cells present from the start, and each cell with a set that "lacks only it", where R is what is present
 pub record Closed (start : ℕ → Bool) (sides : ℕ → List Side) (n : ℕ) (R : ℕ → Type 0) : Type 0 where
   pub from-start : (x : ℕ) → start x ≡ true → R x
   pub closed : (x : ℕ) → x < n → SomeRest R (sides x) → R x

@@ -1,4 +1,4 @@
--- A row whose place is "the first such" or "the lowest such". Assumes nothing.
+-- A row whose place is "first such row" or "lowest such tuple". Assumes nothing.
 use Prim.Native.Nat.{ℕ, _<_}
 use mathlib.Core.Path.{_≡_, refl, sym}
 use mathlib.Core.Bool.{Bool, true, false}

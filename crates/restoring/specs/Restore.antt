@@ -4,7 +4,7 @@ use mathlib.Core.List.{List, _++_}
 use lib.ListN.{getD, length, take, drop}
 use Rattle.leaves.specs.Bytes.{sums, Inside, Spread}
 
--- the list with xs laid over it from p on
+-- the list with xs laid over it from p on [where xs ends inside it]
 unfoldable pub stored : List ℕ → (p : ℕ) → List ℕ → List ℕ
 stored a p xs = take p a ++ (xs ++ drop (p + length xs) a)
 
