@@ -7,7 +7,7 @@ use lib.ListN.{getD}
 use Rattle.geometry.specs.declared.Geometry.{Geometry}
 use Rattle.layout.specs.declared.Place.{Place}
 
--- the unit at a place is lost: the one definition that asks it of the marks. Marks for each unit (02, Ask 10) change its
--- index alone, for which it takes the geometry
+-- the unit at a place is lost: the one definition that asks it of the marks. A disk past their end is not lost (7 refuses such
+-- marks). Marks for each unit (02, Ask 10) change its index alone, for which it takes the geometry
 unfoldable pub lost : Geometry → (marks : List ℕ) → Place → Bool
 lost G marks p = eqb (getD marks (p .disk .0) 0) 1

@@ -18,11 +18,11 @@ region a p = record { group = record { 0 = a }; part = record { 0 = p } }
 unfoldable pub partOf : Geometry → List ℕ → (a t : ℕ) → ℕ
 partOf G d a t = countBelow (names (G .k) d a) t
 
--- the row to which group a's part p belongs
+-- the row to which group a's part p belongs, and b where fewer rows name a
 unfoldable pub tupleOf : Geometry → List ℕ → (a p : ℕ) → ℕ
 tupleOf G d a p = nthBelow (names (G .k) d a) (tuplesOf G) p
 
--- the position of group a in row t
+-- the position of group a in row t, and k where the row does not name it
 unfoldable pub positionOf : Geometry → List ℕ → (a t : ℕ) → ℕ
 positionOf G d a t = lowest (λ (l : ℕ). eqb (groupAt (G .k) d t l) a) (G .k)
 

@@ -24,7 +24,7 @@ numberOf G x = (x .position * G .g + x .row) * G .g + x .column
 unfoldable pub cellNumbered : Geometry → (t n : ℕ) → Cell
 cellNumbered G t n = cell t (n / G .g / G .g) (n / G .g % G .g) (n % G .g)
 
--- the outer set of cell n's label as the cell sees it: the member at position l is l-th, and its own is at its position
+-- the outer set of the cell's label as the cell sees it: the member at position l is l-th, and its own is at its position
 unfoldable pub outerSide : Geometry → Cell → Side
 outerSide G x =
     record {

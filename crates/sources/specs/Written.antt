@@ -49,7 +49,7 @@ outerTriple G ρ y x e =
 abbrev pub innerTriple : Geometry → Region → (y : ℕ) → Cell → (e : ℕ) → List ℕ
 innerTriple G a y x e = tripleOf e (x .row) y (inRegion G a e (diagonalColumn (G .g) (diagonalOf G x) e))
 
--- those of unit y
+-- those of unit y [for 1 ≤ g]
 unfoldable pub unitTriples : Geometry → (ρ : ℕ → Region) → (y : ℕ) → Cell → List ℕ
 unitTriples G ρ y x =
     cond (ltb (x .row) (G .g - 1))
