@@ -50,7 +50,7 @@ fn plan_zeros() -> [u32; 3600]
     [0; 3600]
 }
 
-// "Takes the held set of v and u = 1" (01): the plan of the held design, which is put into the lent list, or the refusal.
+// 01: "takes the held set of v and u = 1": the plan of the held design, which is put into the lent list, or the refusal.
 fn plan_held(q: Question, k: usize, design: &mut [u16], list: &mut [u32]) -> Planned
     requires { ⌜ (k ≡ length (setFor (q .v))) × (length (now design) ≡ length (heldDesign (q .v))) × (length (now list) ≡ room) ⌝ }
     ensures { λ r. ⌜ (plannedOutcome r ≡ answer (showRules q) (triplesOf (shelf q))) × (now (list .exit) ≡ kept (answer (showRules q) (triplesOf (shelf q))) (planned (shelf q) (heldDesign (q .v)) (q .disk) (now (list .entry))) (now (list .entry))) ⌝ }
