@@ -4,4 +4,4 @@ pub mod Starts
 pub mod Theorems
 pub mod Fronts
 pub mod Members
-pub mod Sets
+pub mod WrittenSets

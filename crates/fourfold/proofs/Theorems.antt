@@ -1,4 +1,4 @@
--- The statements of specs/Theorems.antt on bytes hold; those on sets stand in Sets.antt. Assumes nothing.
+-- The statements of specs/Theorems.antt on bytes hold; those on sets stand in WrittenSets.antt. Assumes nothing.
 use Prim.Native.Nat.{ℕ, suc, _+_, _≤_, _<_}
 use mathlib.Core.Path.{_≡_, sym, ap, _∙_}
 use mathlib.Core.Logic.{inl, inr, ⊎-elim}

@@ -36,7 +36,7 @@ use Rattle.fourfold.specs.Writing.{writeCells, differenceOf, writeOf}
 use Rattle.fourfold.specs.Theorems.{Range, at, Beside}
 use Rattle.fourfold.proofs.Places.{disks-apart}
 use Rattle.fourfold.proofs.Starts.{user-in, outer-in, inner-in, range-in}
-use Rattle.fourfold.proofs.Sets.{a-write-keeps-a-consistent-array-consistent}
+use Rattle.fourfold.proofs.WrittenSets.{a-write-keeps-a-consistent-array-consistent}
 use Rattle.fourfold.proofs.Theorems.{a-write-puts-one-difference-into-four-units, a-read-after-a-write}
 use Rattle.fourfold.proofs.Theorems.{other-user-units-keep-their-bytes}
 use Rattle.writing.specs.Writing.{fourLost, firstLost, writeRules}

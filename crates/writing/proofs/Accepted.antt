@@ -28,7 +28,7 @@ use Rattle.reading.proofs.TwoResults as read
 use Rattle.writing.specs.Writing.{fourLost, writeRules}
 use Rattle.fourfold.specs.Theorems.{Range, SameDifference}
 use Rattle.writing.proofs.Reasons.{twelfth, names-user}
-use Rattle.fourfold.proofs.Sets.{a-write-keeps-a-consistent-array-consistent}
+use Rattle.fourfold.proofs.WrittenSets.{a-write-keeps-a-consistent-array-consistent}
 use Rattle.fourfold.proofs.Theorems.{a-write-puts-one-difference-into-four-units, a-read-after-a-write}
 use Rattle.fourfold.proofs.Theorems.{other-user-units-keep-their-bytes}
 use Rattle.writing.proofs.TwoResults.{Allowed, write-accepted}
