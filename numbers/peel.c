@@ -2,14 +2,14 @@
  *
  * usage: peel > ANSWERS
  *
- * One byte a loss, as `survival` writes it. No bytes, no passes in order: the units of a tuple are bits of a word, and any set
- * that lacks one unit gives it back, until none does. */
+ * One byte a loss (losses.h). No bytes, no passes in order: the units of a tuple are bits of a word, and any set that lacks one
+ * unit gives it back, until none does. */
 #include <stdint.h>
-#include <stdio.h>
 
-enum { K = 3, G = 3, TUPLES = 7, DISKS = 21, SETS = (G - 1) * G + K * G };
+#include "losses.h"
 
-static const int rows[TUPLES][K] = {{0, 2, 6}, {0, 1, 3}, {1, 2, 4}, {2, 3, 5}, {3, 4, 6}, {0, 4, 5}, {1, 5, 6}};
+enum { TUPLES = DESIGN / K, SETS = (G - 1) * G + K * G };
+
 static uint32_t sets[SETS];
 
 static uint32_t bit(int position, int row, int column) {
@@ -52,7 +52,7 @@ static int rebuilt(uint32_t loss) {
         uint32_t missing = 0;
         for (int l = 0; l < K; l++) {
             for (int c = 0; c < G; c++) {
-                for (int i = 0; (loss >> (rows[t][l] * G + c) & 1) != 0 && i < G; i++) {
+                for (int i = 0; (loss >> (design[t * K + l] * G + c) & 1) != 0 && i < G; i++) {
                     missing |= bit(l, i, c);
                 }
             }
@@ -66,8 +66,6 @@ static int rebuilt(uint32_t loss) {
 
 int main(void) {
     make_sets();
-    for (uint32_t loss = 0; loss < UINT32_C(1) << DISKS; loss++) {
-        putchar(rebuilt(loss));
-    }
+    print_losses(rebuilt);
     return 0;
 }

@@ -1,17 +1,17 @@
-/* Which losses of design F (v = 7, k = 3, g = 3) does the proved library rebuild? One byte a loss, 0 refused or 1 accepted.
+/* Which losses of design F (v = 7, k = 3, g = 3) does the proved library rebuild? One byte a loss (losses.h).
  *
  * usage: survival > ANSWERS
  *
- * Every loss of the 21 disks, in the order of its number: bit d is set where disk d is lost. The array is made consistent by
- * writes once; each call gets a copy of it in which the lost disks hold other bytes. An accepted rebuild has to give every byte
- * back and count the lost units; a refused one has to be number 13. Anything else ends the program with status 1. */
+ * The array is made consistent by writes once; each call gets a copy of it in which the lost disks hold other bytes. An accepted
+ * rebuild has to give every byte back and count the lost units; a refused one has to be number 13. Anything else ends the program
+ * with status 1. */
 #include <inttypes.h>
 #include <stdio.h>
 #include <stdlib.h>
 #include <string.h>
 
-#include "design_f.h"
 #include "himzolven.h"
+#include "losses.h"
 
 enum { ARRAY = DISKS * UNITS };
 
@@ -62,8 +62,6 @@ static int rebuilt(uint32_t loss) {
 
 int main(void) {
     make_whole();
-    for (uint32_t loss = 0; loss < UINT32_C(1) << DISKS; loss++) {
-        putchar(rebuilt(loss));
-    }
+    print_losses(rebuilt);
     return 0;
 }
