@@ -7,6 +7,7 @@ use mathlib.Core.List.{List, []}
 use lib.Dec.{eqb, leb}
 use lib.ListN.{getD, length}
 use borrow.Author.Tests.{eqb-true, leb-true, not-false}
+use contract.Lifetimes.{Lfts}
 use denote.Ref.{RefT, now}
 use Rattle.counting.specs.Counting.{anyBelow}
 use Rattle.counting.proofs.Bools.{or-one}
@@ -26,19 +27,20 @@ use Rattle.auditing.specs.declared.Audited.{Audited}
 use Rattle.auditing.specs.Auditing.{auditRules, auditedOutcome}
 use Rattle.rebuilding.specs.declared.Rebuilt.{Rebuilt}
 use Rattle.rebuilding.specs.Rebuild.{rebuiltOf, restoredOf, rebuildRules, rebuiltOutcome}
-use Rattle.histories.specs.Histories.{State, diskOf, markedDisks, Loss, FormatStep, ReadStep, WriteStep, AuditStep, RebuildStep}
+use Rattle.histories.specs.Histories.{State, diskOf, markedDisks, Loss, Handed, BothStep, FormatStep, ReadStep, WriteStep, AuditStep, RebuildStep}
+use Rattle.array.proofs.format.Reads as format
+use Rattle.rebuilding.proofs.rebuild.Reads as rebuild
 
 abbrev ref : List ℕ → RefT (List ℕ)
 ref xs = record { ptr = (0, 0); name = 0; now = xs }
 
 module _ (G : Geometry) (d : List ℕ) (s t : State) where
-  abbrev formatVerdict : Outcome (Unit {0})
-  formatVerdict = verdict (arrayRules G d (length (s .array)) (s .marks))
-
-  pub format-step :
-      (r : Checked) → checkedOutcome r ≡ formatVerdict → t .array ≡ kept formatVerdict (formattedArray G) (s .array)
-      → t .marks ≡ kept formatVerdict (formattedMarks G) (s .marks) → FormatStep G d s r t
-  format-step r e a m =
+  both-step :
+      {R : Type 0} (Post : Lfts 3 → Handed → R → Handed → Type 0) (r : R)
+      → Post ([], ([], ([], tt))) (G, (ref d, (ref (s .array), (ref (s .marks), tt)))) r
+      (G, (ref d, (ref (t .array), (ref (t .marks), tt))))
+      → BothStep Post G d s r t
+  both-step Post r h =
       record {
         lifetimes = ([], ([], ([], tt)));
         design = ref d;
@@ -51,8 +53,16 @@ module _ (G : Geometry) (d : List ℕ) (s t : State) where
         are-marks = refl;
         is-array-after = refl;
         are-marks-after = refl;
-        meets = (e, a, m);
+        meets = h;
       }
+
+  abbrev formatVerdict : Outcome (Unit {0})
+  formatVerdict = verdict (arrayRules G d (length (s .array)) (s .marks))
+
+  pub format-step :
+      (r : Checked) → checkedOutcome r ≡ formatVerdict → t .array ≡ kept formatVerdict (formattedArray G) (s .array)
+      → t .marks ≡ kept formatVerdict (formattedMarks G) (s .marks) → FormatStep G d s r t
+  format-step r e a m = both-step format.Post r (e, a, m)
 
   module _ (n : UserUnit) (o : ℕ) (bytes : List ℕ) (r : Checked) where
     pub write-step :
@@ -120,21 +130,7 @@ module _ (G : Geometry) (d : List ℕ) (s t : State) where
       (r : Rebuilt) → rebuiltOutcome r ≡ rebuildAnswer
       → t .array ≡ kept rebuildAnswer (rebuiltOf G d (s .marks) (s .array)) (s .array)
       → t .marks ≡ kept rebuildAnswer (formattedMarks G) (s .marks) → RebuildStep G d s r t
-  rebuild-step r e a m =
-      record {
-        lifetimes = ([], ([], ([], tt)));
-        design = ref d;
-        array = ref (s .array);
-        marks = ref (s .marks);
-        array-after = ref (t .array);
-        marks-after = ref (t .marks);
-        is-design = refl;
-        is-array = refl;
-        are-marks = refl;
-        is-array-after = refl;
-        are-marks-after = refl;
-        meets = (e, a, m);
-      }
+  rebuild-step r e a m = both-step rebuild.Post r (e, a, m)
 
   -- ---- a loss, by tests
   abbrev pub markFits : ℕ → Bool

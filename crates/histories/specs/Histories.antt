@@ -58,21 +58,32 @@ pub record Loss (G : Geometry) (s t : State) : Type 0 where
   pub byte : (p : ℕ) → p < bytesOf G → (getD (t .marks) (diskOf G p) 0 ≡ 1 → ⊥) → getD (t .array) p 0 ≡ getD (s .array) p 0
   pub three : markedDisks G (t .marks) ≤ 3
 
--- the calls, each by its own contract between references that hold the state before and after
-pub record FormatStep (G : Geometry) (d : List ℕ) (s : State) (r : Checked) (t : State) : Type 0 where
-  pub lifetimes : Lfts 3
-  pub design : RefT (List ℕ)
-  pub array : RefT (List ℕ)
-  pub marks : RefT (List ℕ)
-  pub array-after : RefT (List ℕ)
-  pub marks-after : RefT (List ℕ)
-  pub is-design : now design ≡ d
-  pub is-array : now array ≡ s .array
-  pub are-marks : now marks ≡ s .marks
-  pub is-array-after : now array-after ≡ t .array
-  pub are-marks-after : now marks-after ≡ t .marks
-  pub meets :
-      format.Post lifetimes (G, (design, (array, (marks, tt)))) r (G, (design, (array-after, (marks-after, tt))))
+-- the calls, each by its own contract between references that hold the state before and after; format and rebuild are lent a
+-- design, the array and the marks, and may change the last two
+abbrev pub Handed : Type 0
+Handed = Geometry × (RefT (List ℕ) × (RefT (List ℕ) × (RefT (List ℕ) × Unit {0})))
+
+pub record BothStep
+    {R : Type 0} (Post : Lfts 3 → Handed → R → Handed → Type 0) (G : Geometry) (d : List ℕ) (s : State) (r : R) (t : State) : Type 0
+  where
+    pub lifetimes : Lfts 3
+    pub design : RefT (List ℕ)
+    pub array : RefT (List ℕ)
+    pub marks : RefT (List ℕ)
+    pub array-after : RefT (List ℕ)
+    pub marks-after : RefT (List ℕ)
+    pub is-design : now design ≡ d
+    pub is-array : now array ≡ s .array
+    pub are-marks : now marks ≡ s .marks
+    pub is-array-after : now array-after ≡ t .array
+    pub are-marks-after : now marks-after ≡ t .marks
+    pub meets : Post lifetimes (G, (design, (array, (marks, tt)))) r (G, (design, (array-after, (marks-after, tt))))
+
+abbrev pub FormatStep : Geometry → List ℕ → State → Checked → State → Type 0
+FormatStep = BothStep format.Post
+
+abbrev pub RebuildStep : Geometry → List ℕ → State → Rebuilt → State → Type 0
+RebuildStep = BothStep rebuild.Post
 
 pub record ReadStep (G : Geometry) (d : List ℕ) (s : State) (n : UserUnit) (offset : ℕ) (bytes : List ℕ) (r : Checked) (t : State) : Type 0 where
   pub lifetimes : Lfts 4
@@ -115,21 +126,6 @@ pub record AuditStep (G : Geometry) (d : List ℕ) (s : State) (r : Audited) (t 
   pub is-array : now array ≡ s .array
   pub stays : t ≡ s
   pub meets : audit.Post lifetimes (G, (design, (array, tt))) r (G, (design, (array, tt)))
-
-pub record RebuildStep (G : Geometry) (d : List ℕ) (s : State) (r : Rebuilt) (t : State) : Type 0 where
-  pub lifetimes : Lfts 3
-  pub design : RefT (List ℕ)
-  pub array : RefT (List ℕ)
-  pub marks : RefT (List ℕ)
-  pub array-after : RefT (List ℕ)
-  pub marks-after : RefT (List ℕ)
-  pub is-design : now design ≡ d
-  pub is-array : now array ≡ s .array
-  pub are-marks : now marks ≡ s .marks
-  pub is-array-after : now array-after ≡ t .array
-  pub are-marks-after : now marks-after ≡ t .marks
-  pub meets :
-      rebuild.Post lifetimes (G, (design, (array, (marks, tt)))) r (G, (design, (array-after, (marks-after, tt))))
 
 -- from one state to the next, "with that one design and those sizes"
 abbrev pub Step : Geometry → List ℕ → State → Event → State → Type 0
