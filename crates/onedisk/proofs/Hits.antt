@@ -1,6 +1,6 @@
 -- The sources that the plan gives for disk x, by the disk's unit and the member of its set. Assumes nothing.
 use Prim.Native.Nat.{ℕ, _-_, _/_, _%_, _≤_, _<_}
-use mathlib.Core.Path.{_≡_, refl, sym, ap, ap₂, _∙_}
+use mathlib.Core.Path.{_≡_, refl, sym, ap, ap₂, subst⁻¹, _∙_}
 use mathlib.Core.Bool.{Bool, true, false, not, _&&_, cond}
 use mathlib.Core.Logic.{_⊎_, inl, inr, ⊎-elim}
 use mathlib.Core.List.{List}
@@ -8,7 +8,7 @@ use native.Mathlib.Omega.{arith}
 use lib.Arith.{digits-div, digits-mod}
 use lib.Dec.{ltb, eqb}
 use borrow.Author.Tests.{ne-eqb, eqb-false, ltb-true, ltb-false, lt-ltb, le-ltb, not-true}
-use Rattle.counting.proofs.Bools.{bool-either, bool-not-both, and-both, both-and, not-is-true}
+use Rattle.counting.proofs.Bools.{bool-either, and-both, both-and, not-is-true}
 use Rattle.counting.proofs.Sums.{sum-same}
 use Rattle.geometry.specs.declared.Geometry.{Geometry}
 use Rattle.geometry.specs.Geometry.{disksOf, unitsOf}
@@ -39,32 +39,36 @@ cell-of-disk G d s v x e = (
   sym (digits-mod (groupAt (G .k) d (s .tuple .0) (s .position)) (v .column)) ∙ ap (λ (n : ℕ). n % G .g) e,
 )
 
--- ---- the set of a cell that the plan reads: its members, which of them the cell is, and how many they are
+-- ---- the outer set of a cell, or its inner one: the members, which of them the cell is, and how many they are
+abbrev pub membersBy : Geometry → Cell → (outer : Bool) → ℕ → Cell
+membersBy G c outer =
+    cond outer (outerMember G (c .tuple .0) (c .row) (labelOf G c)) (innerMember G (c .tuple .0) (c .position) (diagonalOf G c))
+
+abbrev pub ownBy : Cell → (outer : Bool) → ℕ
+ownBy c outer = cond outer (c .position) (c .row)
+
+abbrev pub sizeBy : Geometry → (outer : Bool) → ℕ
+sizeBy G outer = cond outer (G .k) (G .g)
+
+-- the same of the set that the plan reads: below row g-1 the outer one
 abbrev pub sourceOf : Geometry → Cell → ℕ → Cell
-sourceOf G c =
-    cond (ltb (c .row) (G .g - 1)) (outerMember G (c .tuple .0) (c .row) (labelOf G c))
-    (innerMember G (c .tuple .0) (c .position) (diagonalOf G c))
+sourceOf G c = membersBy G c (ltb (c .row) (G .g - 1))
 
 abbrev pub ownOf : Geometry → Cell → ℕ
-ownOf G c = cond (ltb (c .row) (G .g - 1)) (c .position) (c .row)
+ownOf G c = ownBy c (ltb (c .row) (G .g - 1))
 
 abbrev pub sizeOf : Geometry → Cell → ℕ
-sizeOf G c = cond (ltb (c .row) (G .g - 1)) (G .k) (G .g)
+sizeOf G c = sizeBy G (ltb (c .row) (G .g - 1))
 
 unit-plan-is :
     (G : Geometry) (d : List ℕ) (y : ℕ) (c : Cell) → unitPlan G d y c ≡ others G d y (sourceOf G c) (ownOf G c) (sizeOf G c)
 unfolding unitPlan
 unit-plan-is G d y c = go (ltb (c .row) (G .g - 1))
   where
-    Outer : ℕ → Cell
-    Outer = outerMember G (c .tuple .0) (c .row) (labelOf G c)
-
-    Inner : ℕ → Cell
-    Inner = innerMember G (c .tuple .0) (c .position) (diagonalOf G c)
-
     go :
-        (b : Bool) → cond b (others G d y Outer (c .position) (G .k)) (others G d y Inner (c .row) (G .g))
-        ≡ others G d y (cond b Outer Inner) (cond b (c .position) (c .row)) (cond b (G .k) (G .g))
+        (b : Bool) →
+        cond b (others G d y (membersBy G c true) (c .position) (G .k)) (others G d y (membersBy G c false) (c .row) (G .g))
+        ≡ others G d y (membersBy G c b) (ownBy c b) (sizeBy G b)
     go true = refl
     go false = refl
 
@@ -89,15 +93,9 @@ module _ (G : Geometry) (d : List ℕ) (L : Laid G d) (c : Cell) (v : CellIn G c
       OuterSource G c e (sourceOf G c e) ⊎ InnerSource G c e (sourceOf G c e)
   source-cases e = go (ltb (c .row) (G .g - 1)) refl
     where
-      Outer : ℕ → Cell
-      Outer = outerMember G (c .tuple .0) (c .row) (labelOf G c)
-
-      Inner : ℕ → Cell
-      Inner = innerMember G (c .tuple .0) (c .position) (diagonalOf G c)
-
       go :
-          (b : Bool) → ltb (c .row) (G .g - 1) ≡ b → e < cond b (G .k) (G .g) → (e ≡ cond b (c .position) (c .row) → ⊥) →
-          OuterSource G c e (cond b Outer Inner e) ⊎ InnerSource G c e (cond b Outer Inner e)
+          (b : Bool) → ltb (c .row) (G .g - 1) ≡ b → e < sizeBy G b → (e ≡ ownBy c b → ⊥) →
+          OuterSource G c e (membersBy G c b e) ⊎ InnerSource G c e (membersBy G c b e)
       go true q l ne =
           let low : c .row < G .g - 1 = ltb-true (c .row) (G .g - 1) q in
           inl
@@ -160,50 +158,27 @@ module _ (G : Geometry) (d : List ℕ) (x : ℕ) where
           passes = both .1;
         }
 
-    -- and a member of either set that is not the unit itself is one
+    -- and a member of the set that is not the unit itself is one
+    set-hit :
+        (f : Triple → Bool) (y e : ℕ) (b : Bool) → ltb (unitCell y .row) (G .g - 1) ≡ b →
+        e < sizeBy G b → (e ≡ ownBy (unitCell y) b → ⊥) →
+        f (tripleAt G d y (membersBy G (unitCell y) b e)) ≡ true → (e < sizeOf G (unitCell y)) × (hit f y e ≡ true)
+    set-hit f y e b q l ne p =
+        let c : Cell = unitCell y in
+        subst⁻¹
+        (λ (b : Bool).
+        (e < sizeBy G b) × ((not (eqb e (ownBy c b)) && f (tripleAt G d y (membersBy G c b e))) ≡ true)) q
+        (l, both-and _ _ (not-is-true _ (ne-eqb e (ownBy c b) ne)) p)
+
     pub outer-hit :
         (f : Triple → Bool) (y e : ℕ) → unitCell y .row < G .g - 1 → e < G .k → (e ≡ unitCell y .position → ⊥) →
-        f (tripleAt G d y (outerMember G (unitCell y .tuple .0) (unitCell y .row) (labelOf G (unitCell y)) e)) ≡ true →
-        (e < sizeOf G (unitCell y)) × (hit f y e ≡ true)
-    outer-hit f y e low l ne p = go (ltb (c .row) (G .g - 1)) (lt-ltb (c .row) (G .g - 1) low)
-      where
-        c : Cell
-        c = unitCell y
-
-        Outer : ℕ → Cell
-        Outer = outerMember G (c .tuple .0) (c .row) (labelOf G c)
-
-        Inner : ℕ → Cell
-        Inner = innerMember G (c .tuple .0) (c .position) (diagonalOf G c)
-
-        go :
-            (b : Bool) → b ≡ true →
-            (e < cond b (G .k) (G .g))
-            × ((not (eqb e (cond b (c .position) (c .row))) && f (tripleAt G d y (cond b Outer Inner e))) ≡ true)
-        go true q = (l, both-and _ _ (not-is-true _ (ne-eqb e (c .position) ne)) p)
-        go false q = bool-not-both false q refl
+        f (tripleAt G d y (membersBy G (unitCell y) true e)) ≡ true → (e < sizeOf G (unitCell y)) × (hit f y e ≡ true)
+    outer-hit f y e low = set-hit f y e true (lt-ltb (unitCell y .row) (G .g - 1) low)
 
     pub inner-hit :
         (f : Triple → Bool) (y e : ℕ) → G .g - 1 ≤ unitCell y .row → e < G .g → (e ≡ unitCell y .row → ⊥) →
-        f (tripleAt G d y (innerMember G (unitCell y .tuple .0) (unitCell y .position) (diagonalOf G (unitCell y)) e)) ≡ true →
-        (e < sizeOf G (unitCell y)) × (hit f y e ≡ true)
-    inner-hit f y e high l ne p = go (ltb (c .row) (G .g - 1)) (le-ltb (c .row) (G .g - 1) high)
-      where
-        c : Cell
-        c = unitCell y
-
-        Outer : ℕ → Cell
-        Outer = outerMember G (c .tuple .0) (c .row) (labelOf G c)
-
-        Inner : ℕ → Cell
-        Inner = innerMember G (c .tuple .0) (c .position) (diagonalOf G c)
-
-        go :
-            (b : Bool) → b ≡ false →
-            (e < cond b (G .k) (G .g))
-            × ((not (eqb e (cond b (c .position) (c .row))) && f (tripleAt G d y (cond b Outer Inner e))) ≡ true)
-        go true q = bool-not-both true refl q
-        go false q = (l, both-and _ _ (not-is-true _ (ne-eqb e (c .row) ne)) p)
+        f (tripleAt G d y (membersBy G (unitCell y) false e)) ≡ true → (e < sizeOf G (unitCell y)) × (hit f y e ≡ true)
+    inner-hit f y e high = set-hit f y e false (le-ltb (unitCell y .row) (G .g - 1) high)
 
     -- ---- the units of disk x
     pub unit-group : (y : ℕ) → y < unitsOf G → groupAt (G .k) d (unitCell y .tuple .0) (unitCell y .position) ≡ x / G .g
