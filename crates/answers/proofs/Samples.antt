@@ -3,7 +3,6 @@ use mathlib.Core.Path.{_≡_, refl}
 use Rattle.refusal.specs.Refusal.{accepted, refused}
 use Rattle.layout.specs.Places.{place}
 use Rattle.cells.specs.Roles.{user, outer, inner}
-use Rattle.answers.specs.declared.MapAnswer.{MapAnswer}
 use Rattle.answers.specs.Flat.{geometry, flatSizes, flatMap, flatRole, flatAudit, flatCount}
 
 -- 01's example 2, user 4: "1/1, 18/1, 2/2, 19/2"

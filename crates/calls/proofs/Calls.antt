@@ -1,10 +1,8 @@
 -- Demand 1 of each call in Rattle, from its own contract. Assumes nothing.
-use Prim.Native.Nat.{ℕ}
 use mathlib.Core.Path.{refl, _∙_}
-use mathlib.Core.List.{List}
 use lib.ListN.{length}
-use denote.Ref.{RefT, now}
-use Rattle.refusal.specs.Refusal.{Outcome, refused, accepted, answer, verdict, kept, checkedOutcome}
+use denote.Ref.{now}
+use Rattle.refusal.specs.Refusal.{answer, verdict, checkedOutcome}
 use Rattle.refusal.proofs.Same.{same-checked}
 use Rattle.checking.specs.Rules.{designRules}
 use Rattle.checking.specs.Reasons.{designRows}
@@ -51,7 +49,7 @@ use Rattle.planning.specs.Reasons.{planRows}
 use Rattle.planning.proofs.Reasons.{plan-exact}
 use Rattle.planning.proofs.TwoResults as planning
 use Rattle.lostset.proofs.Contracts as lostset
-use Rattle.calls.specs.Refuses.{nothing, both}
+use Rattle.calls.specs.Refuses.{both}
 use Rattle.calls.specs.Calls.{EveryCall}
 use Rattle.calls.proofs.Settle.{settle, settle-alone, settle-free, pair, kept-both}
 

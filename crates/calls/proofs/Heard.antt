@@ -4,7 +4,7 @@ use mathlib.Core.Path.{_≡_, refl, sym, ap, ap₂, _∙_}
 use mathlib.Core.List.{List}
 use native.Mathlib.Omega.{arith}
 use Rattle.refusal.specs.Refusal.{Outcome, refused, accepted, kept}
-use Rattle.refusal.specs.Due.{Row, Due, NoneDue, Exact}
+use Rattle.refusal.specs.Due.{Row, Exact}
 use Rattle.refusal.proofs.Answer.{refused-accepted}
 use Rattle.host.specs.Told.{Told}
 use Rattle.host.proofs.Told.{numberOf, placeOf, Front}

@@ -12,9 +12,8 @@ use lib.Arith.{digits-div, digits-mod, digits-lt}
 use borrow.Author.Tests.{eq-eqb, eqb-true, eqb-false, not-false}
 use Rattle.counting.proofs.Bools.{bool-either, bool-not-both, and-both, both-and, not-is-false}
 use Rattle.counting.proofs.Laws.{any-none, none-any}
-use Rattle.refusal.specs.Refusal.{verdict, accepted}
 use Rattle.refusal.proofs.Answer.{accepted-quiet, quiet-accepted}
-use Rattle.geometry.specs.Geometry.{Limits, whole, bOf}
+use Rattle.geometry.specs.Geometry.{whole, bOf}
 use Rattle.geometry.proofs.Laws.{limits-of, of-limits}
 use Rattle.design.specs.Design.{groupAt, OneRow, Design}
 use Rattle.checking.specs.Theorems.{What-is-accepted-is-a-design, A-design-is-accepted}

@@ -11,8 +11,8 @@ use lib.ListN.{length}
 use lib.Dec.{eqb}
 use lib.Arith.{digits-div, digits-mod, digits-lt, add-lt-cancel-left}
 use Rattle.counting.specs.Counting.{lowest, anyBelow}
-use Rattle.refusal.specs.Refusal.{rule, verdict}
-use Rattle.refusal.specs.Due.{row, Exact}
+use Rattle.refusal.specs.Refusal.{rule}
+use Rattle.refusal.specs.Due.{row}
 use Rattle.refusal.proofs.Exactness.{Fit, Fits, zero-fit, fit-words, silent-fit, exact}
 use Rattle.geometry.specs.Geometry.{beyondLimits, whole, bOf}
 use Rattle.geometry.proofs.Laws.{limits-of}

@@ -8,7 +8,7 @@ use native.Mathlib.Nat.{mul-div-cancel, mod-lt}
 use native.Mathlib.Omega.{arith}
 use lib.ListN.{length}
 use lib.Dec.{ltb, leb, eqb}
-use borrow.Author.Tests.{lt-ltb, ltb-true, le-leb, leb-true, eq-eqb, eqb-true, eqb-false, ne-eqb, not-true}
+use borrow.Author.Tests.{lt-ltb, ltb-true, le-leb, leb-true, eqb-true, eqb-false, ne-eqb, not-true}
 use Rattle.counting.specs.Counting.{anyBelow}
 use Rattle.counting.proofs.Bools.{bool-either, and-both, both-and, or-one, left-or, right-or, not-is-true}
 use Rattle.counting.proofs.Laws.{any-true, any-witness, count-one, count-one-is}

@@ -2,7 +2,7 @@
 -- tuple of which each region but one has at most one lost column. Assumes nothing.
 use Prim.Native.Nat.{ℕ, _+_, _-_, _*_, _≤_, _<_}
 use mathlib.Core.Path.{_≡_, refl, sym, _∙_}
-use mathlib.Core.Bool.{Bool, true, false, not, cond}
+use mathlib.Core.Bool.{Bool, true, false, cond}
 use mathlib.Core.Logic.{_⊎_, inl, inr}
 use mathlib.Core.List.{List, [], _∷_}
 use lib.Dec.{ltb, eqb}
@@ -24,7 +24,7 @@ use Rattle.region.proofs.Turns.{labelColumn-lt, diagonalColumn-lt, diagonal-onc
 use Rattle.cells.proofs.Sets.{diagonal-in, diagonal-column}
 use Rattle.layout.specs.Places.{placeOf}
 use Rattle.layout.specs.Marks.{lost}
-use Rattle.peeling.specs.Theorems.{Rest, SomeRest, Closed}
+use Rattle.peeling.specs.Theorems.{SomeRest, Closed}
 use Rattle.reaching.specs.Reach.{tupleCellsOf, numberOf, cellNumbered, outerSide, innerSide, sidesOf, hereOf}
 use Rattle.reaching.specs.Theorems.{CellsNumbered}
 use Rattle.completing.proofs.Groups.{lostAt}

@@ -1,16 +1,16 @@
 -- The laws of `lowest`, `anyBelow`, `countBelow` and `nthBelow`: callers use these and not the definitions' text.
 -- Assumes nothing.
 use Prim.Native.Nat.{ℕ, zero, suc, _+_, _≤_, _<_}
-use mathlib.Core.Path.{_≡_, refl, sym, ap, ap₂, _∙_}
-use mathlib.Core.Bool.{Bool, true, false, _&&_, _||_}
+use mathlib.Core.Path.{_≡_, refl, sym, ap, _∙_}
+use mathlib.Core.Bool.{Bool, true, false, _&&_}
 use mathlib.Core.Logic.{_⊎_, inl, inr, ⊎-elim}
 use native.Mathlib.Nat.{add-zero, add-suc, not-suc-le-zero}
 use native.Mathlib.Numerals.{add-one}
 use native.Mathlib.Omega.{arith}
 use lib.Dec.{ltb, eqb}
-use borrow.Author.Tests.{lt-ltb, le-ltb, ltb-true, ltb-false, eq-eqb, ne-eqb, eqb-true}
+use borrow.Author.Tests.{le-ltb, ltb-true, ltb-false, eq-eqb, ne-eqb}
 use Rattle.counting.specs.Counting.{oneMoreIf, countBelow, lowestStep, lowest, anyBelow, nthBelow}
-use Rattle.counting.proofs.Bools.{bool-either, bool-not-both, and-both, both-and, and-left-false, and-right-false}
+use Rattle.counting.proofs.Bools.{bool-either, bool-not-both, both-and, and-left-false, and-right-false}
 
 -- ---- the lowest
 

@@ -1,5 +1,5 @@
 -- What is proved of the audit, each under its sentence of 01: the statements alone. Assumes nothing.
-use Prim.Native.Nat.{ℕ, _+_, _≤_, _<_}
+use Prim.Native.Nat.{ℕ, _+_, _<_}
 use mathlib.Core.Path.{_≡_}
 use mathlib.Core.Bool.{true, false}
 use mathlib.Core.Logic.{_⊎_, _↔_}
@@ -7,7 +7,7 @@ use mathlib.Core.List.{List}
 use Rattle.geometry.specs.declared.Geometry.{Geometry}
 use Rattle.geometry.specs.Geometry.{setsOf}
 use Rattle.consistent.specs.Consistent.{setZero, Consistent}
-use Rattle.finding.specs.Bad.{badBelow, lowestBad, auditOf}
+use Rattle.finding.specs.Bad.{badBelow, auditOf}
 
 -- 0 sets are bad exactly if the array is consistent
 abbrev pub None-bad-exactly-if-consistent : Type 0

@@ -3,10 +3,8 @@
 -- what g divides after d it divides after g mod d, which is smaller. Assumes nothing.
 use Prim.Native.Nat.{ℕ, zero, suc, _+_, _-_, _*_, _/_, _%_, _≤_, _<_, _∣_}
 use mathlib.Core.Path.{_≡_, refl, sym, ap, _∙_}
-use mathlib.Core.Bool.{true}
 use native.Mathlib.Nat.{mul-one, mul-comm, mul-left-comm, mul-add, le-of-sub-eq-zero, emod-pos-of-not-dvd, mod-eq-zero-of-dvd, mul-sub, dvd-mul-left, dvd-mul-left-of-dvd, dvd-add-iff-right, dvd-sub, le-of-dvd, mod-lt, div-add-mod'}
 use native.Mathlib.Omega.{arith}
-use Rattle.geometry.specs.Geometry.{noDivisorBelow}
 use Rattle.geometry.specs.Theorems.{Multiples-differ}
 use Rattle.geometry.proofs.Laws.{NoDivisor, no-divisor}
 

@@ -1,9 +1,7 @@
 -- The statements of specs/Theorems.antt hold. Assumes nothing.
-use Prim.Native.Nat.{ℕ, _*_}
-use mathlib.Core.Path.{_≡_}
 use native.Mathlib.Nat.{mul-assoc}
-use Rattle.geometry.specs.Geometry.{rOf, disksOf, unitsOf, bytesOf}
-use Rattle.geometry.specs.Theorems.{Multiples-differ, Tuples-and-parts, The-array-is-its-units}
+use Rattle.geometry.specs.Geometry.{disksOf, unitsOf, bytesOf}
+use Rattle.geometry.specs.Theorems.{Tuples-and-parts, The-array-is-its-units}
 use Rattle.geometry.proofs.Laws.{bk-vr}
 pub use Rattle.geometry.proofs.Multiples.{multiples-differ}
 

@@ -14,10 +14,8 @@ use borrow.Author.Tests.{eq-eqb, eqb-true}
 use Rattle.counting.specs.Lists.{listOf}
 use Rattle.counting.proofs.Laws.{count-one-is}
 use Rattle.counting.proofs.Lists.{listOf-length, listOf-at}
-use Rattle.refusal.specs.Refusal.{verdict, accepted}
 use Rattle.geometry.specs.Geometry.{bOf}
 use Rattle.design.specs.Design.{groupAt, InRow, OneRow, Design}
-use Rattle.checking.specs.Rules.{designRules}
 use Rattle.checking.proofs.Accepted.{design-accepted}
 use Rattle.held.specs.Theorems.{Held-designs-are-accepted}
 use Rattle.held.specs.Held.{setFor, heldGroup, heldDesign}

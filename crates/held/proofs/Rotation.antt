@@ -11,7 +11,6 @@ use lib.Arith.{digits-div, digits-mod}
 use lib.ListN.{length, getD}
 use lib.Dec.{ltb, leb, eqb}
 use borrow.Author.Tests.{lt-ltb, le-ltb, le-leb, lt-leb, leb-true, leb-false, eq-eqb, eqb-true}
-use Rattle.counting.specs.Counting.{lowest}
 use Rattle.counting.proofs.Ascending.{ascends-far, ascends-le}
 use Rattle.counting.proofs.Laws.{lowest-is, lowest-none, lowest-le, lowest-holds, lowest-before, any-true, any-witness}
 use Rattle.held.specs.Held.{shifted, heldGroup}

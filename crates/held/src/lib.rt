@@ -1,6 +1,6 @@
 // The held difference sets (01), and the call that fills a lent list with the design of a held v.
 ghost use mathlib.Core.Path.{_≡_};
-ghost use Prim.Native.Nat.{ℕ, _*_, _<_};
+ghost use Prim.Native.Nat.{_*_, _<_};
 ghost use lib.ListN.{length, take};
 ghost use Rattle.counting.specs.Lists.{listOf};
 ghost use Rattle.refusal.specs.Refusal.{verdict, kept, checkedOutcome};

@@ -1,11 +1,11 @@
 -- An exact answer, laid out flat, tells what is due. Assumes nothing.
 use Prim.Native.Nat.{ℕ, _<_}
-use mathlib.Core.Path.{_≡_, refl, sym, ap, _∙_}
-use mathlib.Core.Logic.{_⊎_, inl, inr}
-use mathlib.Core.List.{List, [], _∷_}
+use mathlib.Core.Path.{_≡_, refl, ap, _∙_}
+use mathlib.Core.Logic.{inl, inr}
+use mathlib.Core.List.{List, _∷_}
 use native.Mathlib.Omega.{arith}
 use Rattle.refusal.specs.Refusal.{Outcome, refused, accepted}
-use Rattle.refusal.specs.Due.{Row, Due, NoneDue, Exact}
+use Rattle.refusal.specs.Due.{Row, Due, Exact}
 use Rattle.sizes.specs.declared.Sizes.{Sizes}
 use Rattle.layout.specs.declared.Four.{Four}
 use Rattle.finding.specs.declared.Found.{Found}

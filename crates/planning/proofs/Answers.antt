@@ -1,6 +1,6 @@
 -- The answers of the plan, case by case. Assumes nothing.
 use Prim.Native.Nat.{ℕ, _+_, _*_, _≤_, _<_}
-use mathlib.Core.Path.{_≡_, refl, sym, ap, _∙_}
+use mathlib.Core.Path.{_≡_, sym, ap, _∙_}
 use mathlib.Core.List.{List, [], _∷_, _++_}
 use native.Mathlib.Nat.{zero-add}
 use native.Mathlib.Omega.{arith}
@@ -12,7 +12,6 @@ use Rattle.refusal.specs.Refusal.{Rule, rule, Outcome, refused, accepted, answe
 use Rattle.refusal.proofs.Answer.{first, next, skip, stop}
 use Rattle.geometry.specs.declared.Geometry.{Geometry}
 use Rattle.geometry.specs.Geometry.{disksOf}
-use Rattle.design.specs.Design.{Laid}
 use Rattle.sizes.specs.Sizes.{sizesRules}
 use Rattle.sizes.proofs.Reasons.{accepted-is-laid}
 use Rattle.sources.specs.Plan.{planOf}

@@ -1,11 +1,10 @@
 -- The refusals of the plan come exactly as 01 tables them. Assumes nothing.
 use Prim.Native.Nat.{ℕ, _-_, _*_, _≤_, _<_}
-use mathlib.Core.Path.{_≡_}
-use mathlib.Core.List.{List, [], _∷_}
+use mathlib.Core.List.{List}
 use lib.Dec.{leb, ltb}
 use borrow.Author.Tests.{leb-true, le-leb, ltb-true, lt-ltb}
-use Rattle.refusal.specs.Refusal.{rule, answer}
-use Rattle.refusal.specs.Due.{row, Exact}
+use Rattle.refusal.specs.Refusal.{answer}
+use Rattle.refusal.specs.Due.{Exact}
 use Rattle.refusal.proofs.Exactness.{Fits, zero-fit, fits-append, exact}
 use Rattle.geometry.specs.declared.Geometry.{Geometry}
 use Rattle.geometry.specs.Geometry.{partsOf, disksOf}

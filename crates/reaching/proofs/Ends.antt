@@ -1,34 +1,33 @@
 -- A tuple ends as its passes do, whether it is left at once or gone through. Assumes nothing.
 use Prim.Native.Nat.{ℕ, zero, suc, _+_, _*_, _/_, _%_, _≤_, _<_}
 use mathlib.Core.Path.{_≡_, _∙_, ap, sym, refl}
-use mathlib.Core.Bool.{Bool, true, false, not, _||_}
+use mathlib.Core.Bool.{Bool, true, false, not}
 use mathlib.Core.Logic.{_⊎_, inl, inr}
 use mathlib.Core.List.{List, [], _∷_, _++_}
 use native.Mathlib.Omega.{arith}
-use lib.Dec.{ltb, eqb}
+use lib.Dec.{ltb}
 use lib.ListN.{getD, length, List·getD-append}
 use lib.Seq.{getD-at}
 use borrow.Author.Tests.{ltb-true, ltb-false}
 use Rattle.counting.specs.Counting.{anyBelow}
-use Rattle.counting.proofs.Bools.{bool-either, not-is-false}
+use Rattle.counting.proofs.Bools.{bool-either}
 use Rattle.counting.proofs.Laws.{any-none, none-any, any-same}
 use Rattle.geometry.specs.declared.Geometry.{Geometry}
-use Rattle.geometry.specs.Geometry.{tuplesOf, disksOf}
+use Rattle.geometry.specs.Geometry.{tuplesOf}
 use Rattle.design.specs.Design.{groupAt, Laid}
 use Rattle.cells.specs.Ranges.{CellIn}
 use Rattle.layout.specs.Marks.{lost}
 use Rattle.layout.specs.Places.{placeOf}
 use Rattle.layout.proofs.Theorems.{cells-are-places}
-use Rattle.peeling.specs.Peeling.{Side, Step, restored, presentAfter, orElse, visit, sweep, passes, peeled}
+use Rattle.peeling.specs.Peeling.{Side, restored, presentAfter, visit, sweep, passes, peeled}
 use Rattle.reaching.specs.Reach.{tupleCellsOf, cellNumbered, sidesOf, hereOf, stepsOf, incomplete}
-use Rattle.reaching.specs.State.{State, state, stay, seen, passed, logSteps, testsOf, startFlag, startFlags, touchedOf}
+use Rattle.reaching.specs.State.{State, state, seen, passed, logSteps, testsOf, startFlag, startFlags, touchedOf}
 use Rattle.reaching.specs.State.{allSeen, ReachRoom, reachedState, reachedAll}
 use Rattle.reaching.specs.Logged.{Logged, LostAs, Ended, A-tuple-ends-as-its-passes-do}
 use Rattle.reaching.proofs.Numbers.{cell-in}
 use Rattle.reaching.proofs.Fills.{length-tests}
-use Rattle.reaching.proofs.Turns.{Kept, passed-kept}
 use Rattle.reaching.proofs.Whole.{lostAt, start-room, start-passed-long}
-use Rattle.reaching.proofs.Logs.{or-none-right, the-log-lists-what-the-passes-restore}
+use Rattle.reaching.proofs.Logs.{the-log-lists-what-the-passes-restore}
 
 -- ---- where nothing is missing nothing is restored
 

@@ -1,15 +1,14 @@
 -- The flags before the first pass, filled in one after the other: a row, a region, a tuple. Assumes nothing.
 use Prim.Native.Nat.{ℕ, zero, suc, _+_, _*_, _/_, _%_, _≤_, _<_}
 use mathlib.Core.Path.{_≡_, _∙_, ap, sym, refl}
-use mathlib.Core.Bool.{Bool, true, false, not}
+use mathlib.Core.Bool.{Bool}
 use mathlib.Core.List.{List, [], _∷_, _++_, append-assoc, append-nil}
 use native.Mathlib.Nat.{mod-lt, mul-le-mul-right, zero-add, zero-mul, add-zero, add-suc, add-mul, mul-assoc, add-assoc, div-lt-iff-lt-mul, div-add-mod'}
-use native.Mathlib.Numerals.{add-one}
 use native.Mathlib.Omega.{arith}
 use mir.Syntax.{w64}
 use mir.Val.{Fits}
-use lib.Arith.{digits-lt, digits-div, digits-mod}
-use lib.ListN.{getD, length, set, drop, length-append, length-set, drop-of-length-le}
+use lib.Arith.{digits-div, digits-mod}
+use lib.ListN.{getD, length, set, length-append, drop-of-length-le}
 use lib.Seq.{sets, length-sets, sets-eq}
 use Rattle.geometry.specs.declared.Geometry.{Geometry}
 use Rattle.geometry.specs.Geometry.{Sound, tuplesOf, disksOf}

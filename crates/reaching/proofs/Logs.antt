@@ -17,15 +17,13 @@ use Rattle.counting.proofs.Bools.{bool-either, bool-not-both, right-or}
 use Rattle.counting.proofs.Laws.{any-same}
 use Rattle.geometry.specs.declared.Geometry.{Geometry}
 use Rattle.geometry.specs.Geometry.{Sound, tuplesOf}
-use Rattle.design.specs.Design.{Laid}
 use Rattle.cells.specs.declared.Cell.{Cell}
 use Rattle.cells.specs.Ranges.{CellIn}
-use Rattle.cells.specs.Cells.{labelOf, diagonalOf}
 use Rattle.peeling.specs.Peeling.{Side, Step, lacksOnly, restored, presentAfter, orElse, tried, visit, sweep, passes, peeled}
 use Rattle.reaching.specs.Reach.{tupleCellsOf, cellNumbered, outerSide, innerSide, sidesOf, hereOf, stepsOf}
 use Rattle.reaching.specs.State.{State, state, seen, Room, outerRestores, restoresBy, firstOf, kindOf, restoredBy, stay}
 use Rattle.reaching.specs.State.{visited, swept, passed, kindSide, stepOf, logSteps}
-use Rattle.reaching.specs.Logged.{Logged, The-log-lists-what-the-passes-restore}
+use Rattle.reaching.specs.Logged.{The-log-lists-what-the-passes-restore}
 use Rattle.reaching.proofs.Numbers.{cell-in}
 use Rattle.reaching.proofs.Members.{outer-unit-low, inner-unit-low}
 use Rattle.reaching.proofs.Turns.{kept-restored, room-kept}

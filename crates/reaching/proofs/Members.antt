@@ -1,6 +1,6 @@
 -- The units of a set by its seven numbers: outer and inner sets alike, each unit a cell of the tuple. Assumes nothing.
 use Prim.Native.Nat.{ℕ, _+_, _-_, _*_, _%_, _<_, _≤_}
-use mathlib.Core.Path.{_≡_, _∙_, ap, sym, refl, fun-ext}
+use mathlib.Core.Path.{_≡_, _∙_, ap, fun-ext}
 use native.Mathlib.Nat.{mod-lt, mod-add-mod, mul-le-mul, mul-comm, mul-assoc, add-mul, add-comm, mul-one}
 use native.Mathlib.Omega.{arith}
 use mir.Syntax.{w32}
@@ -13,7 +13,6 @@ use Rattle.cells.specs.Cells.{labelOf, diagonalOf}
 use Rattle.cells.specs.Ranges.{CellIn}
 use Rattle.cells.specs.Sets.{outerMember, innerMember}
 use Rattle.region.proofs.Turns.{labelColumn-lt, diagonalColumn-lt}
-use Rattle.peeling.specs.Peeling.{Side}
 use Rattle.reaching.specs.declared.Set.{Set}
 use Rattle.reaching.specs.Reach.{tupleCellsOf, numberOf, outerSide, innerSide}
 use Rattle.reaching.specs.State.{sideOf, SetIn}

@@ -1,20 +1,16 @@
 -- The cells of a tuple and their numbers: k positions of g rows of g columns. Assumes nothing.
 use Prim.Native.Nat.{ℕ, _+_, _-_, _*_, _/_, _%_, _<_}
-use mathlib.Core.Path.{_≡_, _∙_, ap, sym, refl}
-use mathlib.Core.List.{List}
+use mathlib.Core.Path.{_≡_, ap}
 use native.Mathlib.Nat.{mod-lt, div-add-mod', div-lt-iff-lt-mul}
 use native.Mathlib.Omega.{arith}
 use lib.Arith.{digits-lt, digits-div, digits-mod}
 use Rattle.geometry.specs.declared.Geometry.{Geometry}
 use Rattle.geometry.specs.Geometry.{Sound, tuplesOf}
-use Rattle.design.specs.Design.{Laid}
 use Rattle.cells.specs.declared.Cell.{Cell}
 use Rattle.cells.specs.Cells.{cell}
 use Rattle.cells.specs.Ranges.{CellIn}
 use Rattle.cells.proofs.Sets.{label-column, diagonal-column}
-use Rattle.peeling.specs.Theorems.{Own}
 use Rattle.reaching.specs.Reach.{tupleCellsOf, numberOf, cellNumbered, outerSide, innerSide}
-use Rattle.reaching.specs.Theorems.{CellsNumbered, OwnSides}
 use Rattle.reaching.specs.Theorems.{The-cells-of-a-tuple-are-numbered, A-cell-stands-in-its-sets}
 
 module _ (G : Geometry) (s : Sound G) (t : ℕ) where

@@ -1,15 +1,15 @@
 -- Scans upwards that end at the first that passes a test: a set's units, a tuple's flags, a group's disks. Assumes nothing.
-use Prim.Native.Nat.{ℕ, _+_, _*_, _≤_, _<_}
-use mathlib.Core.Path.{_≡_, _∙_, ap, sym, refl}
+use Prim.Native.Nat.{ℕ, _+_, _≤_, _<_}
+use mathlib.Core.Path.{_≡_, ap, sym, refl}
 use mathlib.Core.Bool.{Bool, true, false, not, _&&_, _||_}
 use mathlib.Core.List.{List}
 use native.Mathlib.Omega.{arith}
 use lib.Dec.{eqb}
-use lib.ListN.{getD, length}
+use lib.ListN.{length}
 use Rattle.counting.specs.Counting.{anyBelow}
 use Rattle.counting.proofs.Laws.{any-true, none-any}
 use Rattle.checking.proofs.Scan.{Scanned, scanned-next}
-use Rattle.peeling.specs.Peeling.{Side, lacksOnly}
+use Rattle.peeling.specs.Peeling.{lacksOnly}
 use Rattle.reaching.specs.declared.Set.{Set}
 use Rattle.reaching.specs.State.{sideOf, seen, allSeen}
 

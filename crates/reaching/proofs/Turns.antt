@@ -7,7 +7,7 @@ use mathlib.Core.List.{List}
 use native.Mathlib.Numerals.{add-one}
 use native.Mathlib.Omega.{arith}
 use lib.Dec.{eqb, ltb}
-use lib.ListN.{getD, length, set, length-set}
+use lib.ListN.{length, set, length-set}
 use lib.Seq.{getD-set-same, getD-set-other}
 use borrow.Author.Tests.{eq-eqb, ne-eqb, ltb-true, ltb-false}
 use Rattle.counting.specs.Counting.{oneMoreIf, countBelow}
@@ -15,7 +15,7 @@ use Rattle.counting.proofs.Bools.{bool-either}
 use Rattle.counting.proofs.Laws.{count-suc, count-same, count-le}
 use Rattle.geometry.specs.declared.Geometry.{Geometry}
 use Rattle.reaching.specs.Reach.{tupleCellsOf}
-use Rattle.reaching.specs.State.{State, state, seen, missing, Room, kindOf, restoredBy, stay, visited, swept, passed}
+use Rattle.reaching.specs.State.{State, seen, missing, Room, kindOf, restoredBy, stay, visited, swept, passed}
 
 -- ---- one more present is one less missing
 

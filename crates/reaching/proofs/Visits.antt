@@ -1,10 +1,9 @@
 -- A visit by its cases: which set restores a cell, and what flags and log become. Assumes nothing.
 use Prim.Native.Nat.{ℕ, _+_, _-_, _*_, _≤_, _<_}
-use mathlib.Core.Path.{_≡_, _∙_, ap, ap₂, sym, refl}
-use mathlib.Core.Bool.{Bool, true, false, _&&_}
+use mathlib.Core.Path.{_≡_}
+use mathlib.Core.Bool.{Bool, true, false}
 use mathlib.Core.List.{List}
 use native.Mathlib.Omega.{arith}
-use lib.Dec.{ltb, eqb}
 use lib.ListN.{length, set}
 use borrow.Author.Tests.{lt-ltb, le-ltb, eq-eqb, ne-eqb}
 use Rattle.geometry.specs.declared.Geometry.{Geometry}
@@ -12,7 +11,7 @@ use Rattle.geometry.specs.Geometry.{Sound}
 use Rattle.cells.specs.declared.Cell.{Cell}
 use Rattle.peeling.specs.Peeling.{Side, lacksOnly}
 use Rattle.reaching.specs.Reach.{tupleCellsOf, cellNumbered, outerSide, innerSide}
-use Rattle.reaching.specs.State.{State, state, seen, missing, Room, outerRestores, restoresBy, kindOf, restoredBy, stay, visited}
+use Rattle.reaching.specs.State.{State, state, seen, Room, outerRestores, restoresBy, kindOf, restoredBy, visited}
 use Rattle.reaching.proofs.Members.{product-le}
 use Rattle.reaching.proofs.Turns.{missing-set}
 

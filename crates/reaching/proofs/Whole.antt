@@ -1,7 +1,7 @@
 -- The passes over a tuple as a whole: left at once, or gone through from the start. Assumes nothing.
 use Prim.Native.Nat.{ℕ, _+_, _*_, _≤_, _<_}
-use mathlib.Core.Path.{_≡_, _∙_, ap, sym, refl}
-use mathlib.Core.Bool.{Bool, true, false, not, _||_}
+use mathlib.Core.Path.{_≡_, _∙_, ap, sym}
+use mathlib.Core.Bool.{Bool, true, false, not}
 use mathlib.Core.List.{List}
 use native.Mathlib.Omega.{arith}
 use lib.ListN.{getD, length}
@@ -11,7 +11,7 @@ use Rattle.checking.proofs.Scan.{Scanned, scanned-next}
 use Rattle.geometry.specs.declared.Geometry.{Geometry}
 use Rattle.design.specs.Design.{groupAt}
 use Rattle.reaching.specs.Reach.{tupleCellsOf}
-use Rattle.reaching.specs.State.{State, state, stay, seen, missing, Room, passed, startFlag, startFlags, touchedOf, allSeen}
+use Rattle.reaching.specs.State.{State, state, seen, missing, Room, passed, startFlag, startFlags, touchedOf, allSeen}
 use Rattle.reaching.specs.State.{ReachRoom, reachedState, reachedAll}
 use Rattle.reaching.proofs.Scans.{any-found, any-left}
 use Rattle.reaching.proofs.Fills.{length-tests}

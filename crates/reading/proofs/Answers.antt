@@ -17,8 +17,8 @@ use Rattle.layout.proofs.Places.{place-in}
 use Rattle.leaves.specs.Bytes.{run}
 use Rattle.array.specs.Array.{startOf, cellStart}
 use Rattle.array.specs.Rules.{arrayRules, rangeRules}
-use Rattle.array.proofs.Fits.{Ready, ready}
-use Rattle.array.proofs.Range.{Ranged, ranged}
+use Rattle.array.proofs.Fits.{ready}
+use Rattle.array.proofs.Range.{ranged}
 use Rattle.array.proofs.Kept.{kept-old, kept-new}
 use Rattle.reading.specs.Reading.{readOf, markRule, readRules}
 

@@ -1,8 +1,8 @@
 -- The two phases of the rebuild, tuple by tuple: the search for one that is incomplete, and the bytes. Assumes nothing.
-use Prim.Native.Nat.{ℕ, zero, suc, _+_, _*_, _≤_, _<_}
+use Prim.Native.Nat.{ℕ, _+_, _*_, _≤_, _<_}
 use mathlib.Core.Path.{_≡_, refl, sym, ap, ap₂, subst, subst⁻¹, _∙_}
 use mathlib.Core.Bool.{Bool, true, false, not, cond}
-use mathlib.Core.List.{List, [], _∷_, map}
+use mathlib.Core.List.{List, [], map}
 use native.Mathlib.Numerals.{add-one}
 use native.Mathlib.Omega.{arith}
 use lib.Dec.{eqb}
@@ -10,14 +10,13 @@ use lib.ListN.{getD, length, take, replicate, length-replicate, List·getD-map}
 use lib.Seq.{getD-take, length-take-le}
 use borrow.Author.Tests.{not-true, not-false}
 use Rattle.counting.specs.Counting.{lowest}
-use Rattle.counting.proofs.Bools.{not-is-true}
 use Rattle.checking.proofs.Scan.{Scanned, scanned-none, scanned-next, scanned-found, scanned-all}
 use Rattle.geometry.specs.declared.Geometry.{Geometry}
-use Rattle.geometry.specs.Geometry.{Sound, tuplesOf, disksOf, bytesOf}
+use Rattle.geometry.specs.Geometry.{tuplesOf, disksOf, bytesOf}
 use Rattle.design.specs.Design.{Laid}
 use Rattle.peeling.specs.Peeling.{Step}
-use Rattle.reaching.specs.Reach.{tupleCellsOf, stepsOf, incomplete}
-use Rattle.reaching.specs.State.{State, state, logSteps, ReachRoom, reachedState, reachedAll}
+use Rattle.reaching.specs.Reach.{tupleCellsOf, incomplete}
+use Rattle.reaching.specs.State.{state, logSteps, ReachRoom, reachedState, reachedAll}
 use Rattle.reaching.specs.Logged.{LostAs, Ended}
 use Rattle.reaching.proofs.Ends.{a-tuple-ends-as-its-passes-do}
 use Rattle.reaching.proofs.Visits.{cells-few}

@@ -2,7 +2,7 @@
 use Prim.Native.Nat.{ℕ}
 use mathlib.Core.Bool.{not}
 use mathlib.Core.List.{List, [], _∷_, _++_}
-use Rattle.refusal.specs.Refusal.{Rule, rule, Outcome, refused, accepted, answer}
+use Rattle.refusal.specs.Refusal.{Rule, rule, Outcome, refused, accepted}
 use Rattle.geometry.specs.declared.Geometry.{Geometry}
 use Rattle.geometry.specs.Geometry.{sizesAllowed, partsOf, tuplesOf, disksOf, unitsOf, userUnitsOf, setsOf, bytesOf}
 use Rattle.checking.specs.Rules.{designRules}

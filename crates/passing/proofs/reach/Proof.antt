@@ -1,5 +1,4 @@
 -- `passing::reach` meets its contract. Assumes nothing.
-use native.Mathlib.Omega.{arith}
 use Rattle.reaching.proofs.Whole.{reach-left, start-room, reach-lengths, reach-end}
 use borrow.Author.Needs.{needs}
 use Rattle.passing.proofs.reach.Statement.{statement}

@@ -1,7 +1,6 @@
 -- `passing::touched` meets its contract: no disk of the groups so far is lost. Assumes nothing.
 use Rattle.reaching.proofs.Whole.{lostAt, group-next, group-lost, groups-held}
 use Rattle.checking.proofs.Scan.{Scanned, scanned-none}
-use native.Mathlib.Omega.{arith}
 use Prim.Native.Nat.{_-_}
 use borrow.Author.Needs.{needs}
 use Rattle.passing.proofs.touched.Statement.{statement}

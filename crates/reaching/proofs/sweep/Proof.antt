@@ -2,7 +2,6 @@
 use Rattle.reaching.proofs.Turns.{Sweeping, sweeping-none, sweeping-more, sweeping-all}
 use Rattle.reaching.specs.State.{state}
 use lib.ListN.{length}
-use native.Mathlib.Omega.{arith}
 use Prim.Native.Nat.{_-_}
 use borrow.Author.Needs.{needs}
 use Rattle.reaching.proofs.sweep.Statement.{statement}

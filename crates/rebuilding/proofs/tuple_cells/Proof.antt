@@ -1,7 +1,6 @@
 -- `rebuilding::tuple_cells` meets its contract. Assumes nothing.
 use mathlib.Core.Path.{refl}
 use native.Mathlib.Omega.{arith}
-use borrow.Author.Needs.{needs}
 use Rattle.geometry.proofs.Laws.{diagonals-bound}
 use Rattle.reaching.specs.Reach.{tupleCellsOf}
 use Rattle.reaching.proofs.Visits.{cells-few}

@@ -1,5 +1,4 @@
 -- `sources::inner_source` meets its contract. Assumes nothing.
-use Prim.Native.Nat.{ℕ}
 use mathlib.Core.Path.{ap, _∙_}
 use borrow.Author.Needs.{needs}
 use Rattle.layout.specs.Places.{inRegion}
