@@ -1,4 +1,5 @@
 -- `lines::parse` meets its contract: v, then g, then disk. Assumes nothing.
+use mathlib.Core.List.{[]}
 use native.Mathlib.Omega.{arith}
 use Rattle.lines.proofs.Answers.{unread-v, second-inside, unread-g, third-inside, unread-disk, read-all}
 use Rattle.lines.proofs.parse.Statement.{statement}
@@ -10,12 +11,12 @@ number-before-space-requires c κs = omega arith
 returns : tie.Need-returns
 returns c = unread-v _ _ (c .before .before .number-before-space .ensures) (c .if1 .taken)
 
-add-second : tie.Need-add-second
-add-second c = omega (arith, second-inside _ _ (c .before .before .before .number-before-space .ensures) (c .before .if1 .left))
-
 number-before-space-requires-2 : tie.Need-number-before-space-requires-2
 number-before-space-requires-2 c κs =
     second-inside _ _ (c .before .before .before .number-before-space .ensures) (c .before .if1 .left)
+
+add-second : tie.Need-add-second
+add-second c = omega (arith, number-before-space-requires-2 c ([], tt))
 
 returns-2 : tie.Need-returns-2
 returns-2 c =
@@ -29,22 +30,10 @@ number-before-end-requires c κs =
     (c .before .if2 .left)
 
 add-third : tie.Need-add-third
-add-third c =
-    omega (
-      arith,
-      third-inside _ _ (c .before .before .before .before .before .before .before .number-before-space .ensures)
-          (c .before .before .before .before .before .if1 .left) _ (c .before .before .before .number-before-space2 .ensures)
-          (c .before .if2 .left),
-    )
+add-third c = omega (arith, number-before-end-requires c ([], tt))
 
 add-third-2 : tie.Need-add-third-2
-add-third-2 c =
-    omega (
-      arith,
-      third-inside _ _ (c .before .before .before .before .before .before .before .number-before-space .ensures)
-          (c .before .before .before .before .before .if1 .left) _ (c .before .before .before .number-before-space2 .ensures)
-          (c .before .if2 .left),
-    )
+add-third-2 c = omega (arith, number-before-end-requires c ([], tt))
 
 returns-3 : tie.Need-returns-3
 returns-3 c =
