@@ -19,7 +19,7 @@ use Rattle.cells.specs.declared.Role.the-variants.{User, Outer, Inner}
 use Rattle.cells.specs.Cells.{cell, diagonalOf}
 use Rattle.cells.specs.Sets.{outerMember, outerParity}
 use Rattle.cells.specs.Ranges.{RoleIn}
-use Rattle.cells.specs.Roles.{userCell, userOuter, innerOf, user, outer, inner, cellOf}
+use Rattle.cells.specs.Roles.{userCell, userOuter, innerOf, outer, inner, cellOf}
 use Rattle.cells.proofs.Sets.{outer-member-in, diagonal-in}
 use Rattle.cells.proofs.Theorems.{the-cell-of-a-user-unit, the-cell-of-an-outer-parity, the-cell-of-an-inner-parity}
 use Rattle.cells.proofs.Theorems.{the-members-of-an-inner-set, a-unit-is-in-the-inner-set-of-its-diagonal}

@@ -8,7 +8,7 @@ use lib.Dec.{eqb, leb}
 use lib.ListN.{getD, length}
 use borrow.Author.Tests.{eqb-true, leb-true, not-false}
 use contract.Lifetimes.{Lfts}
-use denote.Ref.{RefT, now}
+use denote.Ref.{RefT}
 use Rattle.counting.specs.Counting.{anyBelow}
 use Rattle.counting.proofs.Bools.{or-one}
 use Rattle.counting.proofs.Laws.{any-none}
