@@ -1,8 +1,7 @@
 /* The byte calls: format, read, write, audit and rebuild, timed beside C (contest.c), alone as the sizes grow, or run once
  * under callgrind.
- * usage: bytes time|rebuild V K G U, bytes growth V K G U LIST, bytes once format|read|write|audit|rebuild V K G U, or
- * bytes isal
- * `time` prints lines "call memory|hot contestant ns", ns of one call; `rebuild` times that call alone.
+ * usage: bytes time V K G U, bytes growth V K G U LIST, bytes once format|read|write|audit|rebuild V K G U, or bytes isal
+ * `time` prints lines "call memory|hot contestant ns", ns of one call.
  * `growth` takes the design from the file LIST and times write, audit and, beside fused C, the rebuild of one disk, from memory.
  * Lines "moved loss read|written bytes" tell what a rebuild must read of present disks, and what it restores. */
 #include <stdio.h>
@@ -234,15 +233,6 @@ static void prepare(size_t count) {
     printf("arrays - - %zu\nbytes - - %zu\n", arrays, s.bytes);
 }
 
-static int run_rebuilds(void) {
-    prepare(2);
-    same_losses();
-    for (hot = 0; hot < 2; hot++) race_rebuilds();
-    hot = 0;
-    RACE("limit", limit_race, 1.0);
-    return sink == 1;
-}
-
 static int run_time(void) {
     prepare(2);
     same_calls();
@@ -304,9 +294,9 @@ static const struct {
 };
 
 int main(int argc, char **argv) {
-    if (argc == 6 && (strcmp(argv[1], "time") == 0 || strcmp(argv[1], "rebuild") == 0)) {
+    if (argc == 6 && strcmp(argv[1], "time") == 0) {
         make_shape(argv + 2, NULL);
-        return argv[1][0] == 't' ? run_time() : run_rebuilds();
+        return run_time();
     }
     if (argc == 7 && strcmp(argv[1], "growth") == 0) {
         make_shape(argv + 2, argv[6]);
@@ -323,7 +313,7 @@ int main(int argc, char **argv) {
         printf("%s\n", ISAL_TOLD);
         return 0;
     }
-    fprintf(stderr, "usage: bytes time|rebuild V K G U, bytes growth V K G U LIST,\n"
+    fprintf(stderr, "usage: bytes time V K G U, bytes growth V K G U LIST,\n"
                     "       bytes once format|read|write|audit|rebuild V K G U, or bytes isal\n");
     return 2;
 }

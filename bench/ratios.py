@@ -4,7 +4,7 @@ from pathlib import Path
 import peers
 from tables import prose, shown, span, table
 from targets import Target
-from timing import LOSSES, SIZES
+from timing import LOSSES, SIZES, lossy
 
 # the least that is asked: beside C with the same passes, from memory and hot; beside the C library; beside ISA-L at u = 4096
 PASSES, HOT, PLAIN, ISAL = 1.2, 0.9, 0.9, 0.9
@@ -61,10 +61,10 @@ class Found:
 
 
 class Ratios:
-    """Of the cases with every call, and of all with each loss."""
+    """Of the cases, and of all with each loss."""
 
-    def __init__(self, cases, losses):
-        self.cases, self.losses = cases, losses
+    def __init__(self, cases):
+        self.cases, self.losses = cases, lossy(cases)
 
     def three(self, **how):
         """The calls that have C contestants."""

@@ -5,8 +5,7 @@ from pathlib import Path
 from tables import figures, prose, shown, span, table
 
 SIZES = (512, 4096)
-CASES = [(v, k, g, u) for v, k, g in ((7, 3, 3), (13, 4, 11), (21, 5, 11), (91, 10, 11)) for u in SIZES]
-LARGE = [(91, 10, 13, u) for u in SIZES]  # the rebuild alone
+CASES = [(v, k, g, u) for v, k, g in ((7, 3, 3), (13, 4, 11), (21, 5, 11), (91, 10, 11), (91, 10, 13)) for u in SIZES]
 LOSSES = ("one", "three", "2+1")
 ROUNDS = 9
 C = {"passes": "same passes", "fused": "fused C", "isal": "ISA-L"}
@@ -80,9 +79,9 @@ class Case:
     """One case's figures: ns of each contestant by call, where and name, the bytes of an array and how many there were."""
 
     def __init__(self, say, case):
-        self.u, self.large = case[3], case in LARGE
+        self.u = case[3]
         self.head = [case[0], case[2], case[3]]
-        self.told = figures(say("target/bytes", "rebuild" if case in LARGE else "time", *case))
+        self.told = figures(say("target/bytes", "time", *case))
         self.bytes, self.arrays = self.told["bytes", "-", "-"], self.told["arrays", "-", "-"]
 
     def ns(self, call, where, name="library", less=False):
@@ -178,9 +177,9 @@ def limits(told):
     return "Memory limits over the geometries, GB/s: " + ", ".join(f"{name} {rate}" for name, rate in rates.items()) + "."
 
 
-def split(told):
-    """The cases with every call, and all with each loss."""
-    return [x for x in told if not x.large], [Loss(x, lost) for x in told for lost in LOSSES]
+def lossy(cases):
+    """All cases with each loss."""
+    return [Loss(x, lost) for x in cases for lost in LOSSES]
 
 
 def in_runs(say):
@@ -189,15 +188,15 @@ def in_runs(say):
     return ["", prose(RUNS), "", *table(["runs", *(n for _, _, n in told)], [["ns", *(f"{ns:.3f}" for ns in told.values())]])]
 
 
-def report(told, runs):
+def report(cases, runs):
     c, d, e = list(C.values()), list(C_COPIED.values()), list(C_AUDIT.values())
-    cases, losses = split(told)
     out = [prose(ABOUT)]
-    if len(told) < len(CASES + LARGE):
+    if len(cases) < len(CASES):
         out += ["", "The largest arrays are left out: they need more memory than there was."]
     out += part(WRITE, ["refused call", "write"] + c + ["share of memcpy", "hot: write"] + c, write_row, cases)
     out += part(AUDIT, ["audit", "check in it"] + e + ["share of read", "hot: " + e[0]] + e[1:], audit_row, cases) + runs
-    out += part(REBUILD, ["rebuild", "check in it"] + d + ["share of the limit", "hot: " + d[0]] + d[1:], rebuild_row, losses)
+    out += part(REBUILD, ["rebuild", "check in it"] + d + ["share of the limit", "hot: " + d[0]] + d[1:], rebuild_row,
+                lossy(cases))
     out += part(FORMAT, ["format", "check in it", "memset", "share of memset", "hot: memset"], format_row, cases)
     out += part(READ, ["refused call", "read", "memcpy", "share of read", "hot: read", "memcpy"], read_row, cases)
-    return out + part(LIMITS, ["array, MB", "arrays in turn", "memcpy", "memset", "read"], limit_row, told)
+    return out + part(LIMITS, ["array, MB", "arrays in turn", "memcpy", "memset", "read"], limit_row, cases)
