@@ -30,6 +30,16 @@ static void copy_unit(uint8_t *array, const size_t at[4], const uint8_t *unused,
     memcpy(bytes, array + at[0], n);
 }
 
+static void narrow_unit(uint8_t *array, const size_t at[4], const uint8_t *unused, size_t n) {
+    (void)unused;
+    copy_pass(bytes, array + at[0], n);
+}
+
+static void wide_unit(uint8_t *array, const size_t at[4], const uint8_t *unused, size_t n) {
+    (void)unused;
+    wide_pass(bytes, array + at[0], n);
+}
+
 static void run_format(const contestant *me, uint32_t calls) {
     for (uint32_t i = 0; i < calls; i++) {
         uint8_t *array = next_array();
@@ -85,6 +95,8 @@ static contestant read_race[] = {
     {.name = "refused", .run = run_read, .refuse = 1},
     {.name = "library", .run = run_read},
     {.name = "memcpy", .run = run_read, .refuse = 1, .writes = copy_unit},
+    {.name = "narrow", .run = run_read, .refuse = 1, .writes = narrow_unit},
+    {.name = "wide", .run = run_read, .refuse = 1, .writes = wide_unit}, /* the last, since not every processor has it */
 };
 static contestant format_race[] = {
     {.name = "refused", .run = run_format, .refuse = 1},
@@ -188,6 +200,20 @@ static void same_losses(void) {
     same_refusals();
 }
 
+/* the last user unit, by the library and by each copy */
+static void same_reads(void) {
+    uint32_t user = s.users - 1;
+    places p = places_of(&s, user);
+    writer *copies[] = {copy_unit, narrow_unit, wide_unit};
+    if (all_zero(pool + p.at[0], s.u)) memset(pool + p.at[0], 0xA5, s.u);
+    if (call_read(pool, user) != 0 || memcmp(bytes, pool + p.at[0], s.u) != 0) fail("a read differs");
+    for (int c = 0; c < COUNT(copies) - !has_wide(); c++) {
+        memset(bytes, 0, s.u);
+        copies[c](pool, p.at, bytes, s.u);
+        if (memcmp(bytes, pool + p.at[0], s.u) != 0) fail("a copy differs");
+    }
+}
+
 static void same_calls(void) {
     for (uint32_t i = 0; i < WRITES; i++) {
         uint32_t user = scattered(i + 1) % s.users;
@@ -216,8 +242,7 @@ static void same_calls(void) {
         same_writes(writers[i]);
         same_audits(testers[i]);
     }
-    uint32_t user = s.users - 1;
-    if (call_read(pool, user) != 0 || memcmp(bytes, pool + places_of(&s, user).at[0], s.u) != 0) fail("a read differs");
+    same_reads();
 }
 
 static void race_rebuilds(void) {
@@ -239,7 +264,7 @@ static int run_time(void) {
     same_losses();
     for (hot = 0; hot < 2; hot++) {
         RACE("write", write_race, hot ? 1.0 : 2.5);
-        RACE("read", read_race, hot ? 0.5 : 1.0);
+        race("read", read_race, COUNT(read_race) - !has_wide(), hot ? 0.5 : 1.5);
         race_rebuilds();
         if (hot && s.bytes > cache(_SC_LEVEL2_CACHE_SIZE)) continue;
         RACE("format", format_race, hot ? 0.4 : 1.0);

@@ -62,6 +62,11 @@ tester isal_differ;
 restorer isal_restore;
 const char *isal_version(void);
 
+/* a copy by registers of 16 bytes, and one by those of 64, where the processor has them */
+void copy_pass(uint8_t *restrict to, const uint8_t *restrict from, size_t n);
+void wide_pass(uint8_t *restrict to, const uint8_t *restrict from, size_t n);
+int has_wide(void);
+
 /* every byte once, for the limit of reading */
 uint64_t read_all(const uint8_t *array, size_t n);
 

@@ -3,7 +3,7 @@ from pathlib import Path
 
 import peers
 from tables import prose, shown, span, table
-from targets import Target
+from targets import Cause, Target
 from timing import LOSSES, SIZES, lossy
 
 # the least that is asked: beside C with the same passes, from memory and hot; beside the C library; beside ISA-L at u = 4096
@@ -19,8 +19,21 @@ SHARES = [
     ("audit", None, 512, 0.3),
 ]
 NAMES = {"rebuild": "rebuild of one to three disks"}
-SAME = "In brackets fused C, which has one pass and registers of 16 bytes, as the library has."
-WIDE = "{} may take registers of {}, the library those of 16 bytes that every x86-64 has."
+NEARLY = 0.95  # of the library's time: C takes as long
+SAME = "In brackets fused C, which has one pass and registers of 16 bytes, as the library has, and checks nothing."
+LOOPS = "In brackets C loops that copy by registers of 16 bytes, as the library does, and by those of 64."
+MEMSET = "In brackets memset, which checks nothing."
+CHECK = "In brackets the share of its check, which memset has not."
+AS_LONG = "C takes as long, within 5 %, or longer: the cause is not the library."
+REGISTERS = """
+By 16 bytes C takes as long, within 5 %, or longer, and by 64 it is nearer to memcpy than to that: the registers are the cause. The
+library has those that every x86-64 has.
+"""
+OTHERS = """
+C takes as long, within 5 %, or longer: the cause is what ISA-L has and C has not. It may take registers of {}, the library has
+those that every x86-64 has.
+"""
+LESS = "Less that share it takes no longer than is asked: the check is the cause."
 SHORT = """
 Time of the other over time of the library, from memory: the lowest and the highest over the geometries. Above 1 the library is
 the faster. A code's write is a small write, less what the library spends on its check and map.
@@ -50,8 +63,28 @@ class Found:
     def shares(self):
         return [(c, c.share(self.call)) for c in self.places]
 
-    def fused(self, c):
-        return shown(self.ratio(c, "fused")) or "not told"
+    def cause(self, name, says, because):
+        """Known where C takes as long as the library."""
+        return Cause(lambda c: shown(self.ratio(c, name)) or "not told", says, because,
+                     lambda c: (self.ratio(c, name) or 0) >= NEARLY)
+
+    def registers(self):
+        """They are the cause where memcpy's lead is C's by wider ones over C's by those that the library has."""
+        def told(c):
+            return [self.ratio(c, name) for name in ("memcpy", "narrow", "wide")]
+
+        def holds(c):
+            memcpy, narrow, wide = told(c)
+            return bool(narrow and wide) and narrow >= NEARLY and wide < (narrow + memcpy) / 2
+
+        return Cause(lambda c: " and ".join(shown(x) or "not told" for x in told(c)[1:]), LOOPS, REGISTERS, holds)
+
+    def check(self):
+        """The check is the cause where less it the call would do."""
+        def share(c):
+            return c.ns(self.call, self.where, "refused") / c.ns(self.call, self.where)
+
+        return Cause(lambda c: f"{share(c):.2f}", CHECK, LESS, lambda c: self.ratio(c, "memset") >= PLAIN * (1 - share(c)))
 
     def by_u(self, name):
         return {u: [x for c, x in self.beside(name) if x and c.u == u] for u in SIZES}
@@ -78,15 +111,17 @@ class Ratios:
     def targets(self):
         out = []
         for where, name, least in (("memory", "from memory", PASSES), ("hot", "hot", HOT)):
-            out += [Target(f"{call} {name}, beside C with the same passes", least, f.beside("passes"), SAME, f.fused)
-                    for call, f in self.three(where=where).items()]
-        out += [Target(f"{call} from memory, beside {other}", PLAIN, f.beside(other), WIDE.format(other, widest()))
-                for (call, other), f in self.plain().items()]
+            out += [Target(f"{call} {name}, beside C with the same passes", least, f.beside("passes"),
+                           f.cause("fused", SAME, AS_LONG)) for call, f in self.three(where=where).items()]
+        for (call, other), f in self.plain().items():
+            cause = f.check() if call == "format" else f.registers()
+            out.append(Target(f"{call} from memory, beside {other}", PLAIN, f.beside(other), cause))
         out += [Target(f"{call} from memory at u = 4096, beside ISA-L", ISAL, f.beside("isal"),
-                       WIDE.format("ISA-L", widest()) + " " + SAME, f.fused) for call, f in self.three(sizes=[4096]).items()]
+                       f.cause("fused", SAME, OTHERS.format(widest()))) for call, f in self.three(sizes=[4096]).items()]
         for call, lost, u, least in SHARES:
             f = Found(call, [c for c in self.losses if c.lost in lost] if lost else self.cases, [u])
-            out.append(Target(f"{call} at u = {u}, share of the memory limit", least, f.shares(), SAME, f.fused))
+            cause = f.cause("memset", MEMSET, AS_LONG) if call == "format" else f.cause("fused", SAME, AS_LONG)
+            out.append(Target(f"{call} at u = {u}, share of the memory limit", least, f.shares(), cause))
         return out
 
     def plotted(self):

@@ -7,14 +7,14 @@ is missed, the places follow the table, with what this run has to say of the cau
 only": the bounds are our reading of that. Not told: what is hot is measured only where it fits the second cache, and a difference
 only where it is large enough.
 """
+UNKNOWN = "No cause is known."
 
 
 class Target:
-    """`got`: places with what was found there. `most`: the bound is an upper one. For a missed place `note` gives what stands in
-    brackets after it; `cause` says why, and what is in the brackets."""
+    """`got`: places with what was found there. `most`: the bound is an upper one. `cause` says why places are missed."""
 
-    def __init__(self, what, bound, got, cause="", note=None, most=False):
-        self.what, self.bound, self.most, self.cause, self.note = what, bound, most, cause, note
+    def __init__(self, what, bound, got, cause=None, most=False):
+        self.what, self.bound, self.most, self.cause = what, bound, most, cause
         self.got = [(place, x) for place, x in got if x is not None]
         self.untold = len(got) - len(self.got)
         self.missed = [(place, x) for place, x in self.got if (x > bound if most else x < bound)]
@@ -31,8 +31,24 @@ class Target:
 
     def misses(self):
         """A sentence with the places, or none."""
-        places = [f"{place.at()}: {x:.2f}" + (f" ({self.note(place)})" if self.note else "") for place, x in self.missed]
-        return [prose(f"- {self.what}: {'; '.join(places)}. {self.cause or 'No cause is known.'}")] if places else []
+        places = [f"{place.at()}: {x:.2f}" + (f" ({self.cause.note(place)})" if self.cause else "") for place, x in self.missed]
+        why = self.cause.told([place for place, _ in self.missed]) if self.cause else UNKNOWN
+        return [prose(f"- {self.what}: {'; '.join(places)}. {why}")] if places else []
+
+
+class Cause:
+    """`note` gives what stands in brackets after a missed place, and `says` tells what that is. Where `holds` is true of a place,
+    the cause is what `because` tells; elsewhere none is known."""
+
+    def __init__(self, note, says, because="", holds=lambda place: False):
+        self.note, self.says, self.because, self.holds = note, says, because, holds
+
+    def told(self, places):
+        known = [place.at() for place in places if self.holds(place)]
+        if len(known) == len(places):
+            return f"{self.says} {self.because}"
+        at = f"For {'; '.join(known)}: {self.because} Elsewhere: " if known else ""
+        return f"{self.says} {at}{UNKNOWN}"
 
 
 class Place:

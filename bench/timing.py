@@ -11,6 +11,7 @@ ROUNDS = 9
 C = {"passes": "same passes", "fused": "fused C", "isal": "ISA-L"}
 C_COPIED = {"passes": "same passes", "copied": "first copied", "fused": "fused C", "isal": "ISA-L"}
 C_AUDIT = {"passes": "same passes", "inner": "inner sets first", "copied": "first copied", "fused": "fused C", "isal": "ISA-L"}
+C_READ = {"memcpy": "memcpy", "narrow": "C by 16 bytes", "wide": "C by 64 bytes"}
 
 ABOUT = f"""
 Ratios are C time over library time from one run: above 1 the library is the faster. "Same passes": one source a pass through a
@@ -48,7 +49,10 @@ touches is flushed out of all caches, and its pages out of those translated, bef
 second cache.
 """
 FORMAT = "Format, us, the check included, beside memset of array and marks, which checks nothing."
-READ = "Read of whole units, ns, less the same call refused by the mark of the data disk, beside memcpy of the unit."
+READ = """
+Read of whole units, ns, less the same call refused by the mark of the data disk, beside memcpy of the unit, and C loops that
+copy it by registers of 16 bytes, as the library does, and of 64 (AVX-512).
+"""
 LIMITS = "Memory limits, GB/s: what memcpy copies, memset sets and a loop reads of one array from memory."
 
 
@@ -96,7 +100,7 @@ class Case:
 
     def ratios(self, call, where, names, less=False):
         known = {n for c, _, n in self.told if c == call}
-        return [shown(self.ratio(call, where, n, less)) if n in known else "not installed" for n in names]
+        return [shown(self.ratio(call, where, n, less)) if n in known else "not there" for n in names]
 
     def rate(self, name):
         """Bytes a ns of a memory limit. memcpy copies one half of an array onto the other."""
@@ -152,8 +156,8 @@ def format_row(c):
 
 def read_row(c):
     row = [shown(c.ns("read", "memory", n, n == "library"), "{:.0f}") for n in ("refused", "library")]
-    row += [shown(c.ratio("read", "memory", "memcpy", True)), shown(c.share("read"))]
-    return row + [shown(c.ns("read", "hot", "library", True), "{:.0f}"), shown(c.ratio("read", "hot", "memcpy", True))]
+    row += c.ratios("read", "memory", C_READ, True) + [shown(c.share("read"))]
+    return row + [shown(c.ns("read", "hot", "library", True), "{:.0f}")] + c.ratios("read", "hot", C_READ, True)
 
 
 def limit_row(c):
@@ -198,5 +202,6 @@ def report(cases, runs):
     out += part(REBUILD, ["rebuild", "check in it"] + d + ["share of the limit", "hot: " + d[0]] + d[1:], rebuild_row,
                 lossy(cases))
     out += part(FORMAT, ["format", "check in it", "memset", "share of memset", "hot: memset"], format_row, cases)
-    out += part(READ, ["refused call", "read", "memcpy", "share of read", "hot: read", "memcpy"], read_row, cases)
+    f = list(C_READ.values())
+    out += part(READ, ["refused call", "read"] + f + ["share of read", "hot: read"] + f, read_row, cases)
     return out + part(LIMITS, ["array, MB", "arrays in turn", "memcpy", "memset", "read"], limit_row, cases)
