@@ -7,6 +7,36 @@ static himzolven_answer answer(uint32_t refusal, uint32_t place) {
     return a;
 }
 
+/* the held sets, by v */
+static const struct held {
+    uint32_t v, k;
+    uint16_t set[10];
+} held[] = {
+    {7, 3, {0, 1, 3}},
+    {13, 4, {0, 1, 3, 9}},
+    {21, 5, {0, 1, 4, 14, 16}},
+    {31, 6, {0, 1, 3, 8, 12, 18}},
+    {57, 8, {0, 1, 3, 13, 32, 36, 43, 52}},
+    {73, 9, {0, 1, 3, 7, 15, 31, 36, 54, 63}},
+    {91, 10, {0, 1, 3, 9, 27, 49, 56, 61, 77, 81}},
+};
+
+/* row i: the members that reach v come first, less v, and then the others */
+static void develop_row(uint32_t v, uint32_t k, const uint16_t *set, uint32_t i, uint16_t *row) {
+    uint32_t past = 0;
+    while (past < k && set[past] + i < v) past++;
+    for (uint32_t l = 0; l < k; l++) row[l] = (uint16_t)(l < k - past ? set[past + l] + i - v : set[l - (k - past)] + i);
+}
+
+himzolven_answer plain_fill(uint32_t v, uint16_t *design, size_t length) {
+    const struct held *h = held, *end = held + sizeof held / sizeof held[0];
+    while (h < end && h->v != v) h++;
+    if (h == end) return answer(1, 0);
+    if (length != (size_t)v * h->k) return answer(3, 0);
+    for (uint32_t i = 0; i < v; i++) develop_row(v, h->k, h->set, i, design + i * h->k);
+    return answer(0, 0);
+}
+
 himzolven_answer plain_check(uint32_t v, uint32_t k, const uint16_t *design, size_t length) {
     if (v < 2 || v > 91 || k < 2 || k > 10 || k > v) return answer(2, 0);
     if ((v - 1) % (k - 1) != 0 || v * (v - 1) % (k * (k - 1)) != 0) return answer(3, 0);
@@ -42,6 +72,24 @@ static himzolven_answer plain_sizes_check(uint32_t v, uint32_t k, uint32_t g, ui
     if (a.refusal != 0) return a;
     if (g < 2 || g > 13 || !prime(g) || g < k || u < 1 || u > 4096) return answer(6, 0);
     return a;
+}
+
+himzolven_sizes_answer plain_sizes(
+    uint32_t v, uint32_t k, uint32_t g, uint32_t u, const uint16_t *design, size_t length) {
+    himzolven_sizes_answer r;
+    memset(&r, 0, sizeof r);
+    himzolven_answer a = plain_sizes_check(v, k, g, u, design, length);
+    r.refusal = a.refusal;
+    r.place = a.place;
+    if (a.refusal != 0) return r;
+    r.parts = (v - 1) / (k - 1);
+    r.tuples = v * (v - 1) / (k * (k - 1));
+    r.disks = v * g;
+    r.units = r.parts * g;
+    r.user_units = r.tuples * (k - 1) * (g - 1) * g;
+    r.sets = r.tuples * ((g - 1) * g + k * g);
+    r.bytes = (uint64_t)r.disks * r.units * u;
+    return r;
 }
 
 static uint32_t part_of(const uint16_t *design, size_t end, uint16_t group) {
