@@ -34,6 +34,10 @@ C takes as long, within 5 %, or longer: the cause is what ISA-L has and C has no
 those that every x86-64 has.
 """
 LESS = "Less that share it takes no longer than is asked: the check is the cause."
+ORDER = """
+In "audit from memory" C goes through the sets by number, as 01 names them. Beside C with the same passes that takes a tuple's inner
+sets first, as the library does, the audit's ratios are {}.
+"""
 SHORT = """
 Time of the other over time of the library, from memory: the lowest and the highest over the geometries. Above 1 the library is
 the faster. A code's write is a small write, less what the library spends on its check and map.
@@ -123,6 +127,9 @@ class Ratios:
             cause = f.cause("memset", MEMSET, AS_LONG) if call == "format" else f.cause("fused", SAME, AS_LONG)
             out.append(Target(f"{call} at u = {u}, share of the memory limit", least, f.shares(), cause))
         return out
+
+    def order(self):
+        return prose(ORDER.format(Found("audit", self.cases).told("inner")))
 
     def plotted(self):
         """Groups of rows for the plot, with what is asked for each u."""
