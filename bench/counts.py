@@ -23,8 +23,11 @@ checks the design anew, so a map's count holds a check's. All answers and lists 
 plans of all disks besides. The fill is there where the rows of k are those of the held set.
 """
 MORE = 1.1  # more than plain C's
+LEAST = 0.9  # of plain C's time over the library's
 SAYS = "In brackets instructions over those of plain C; branches that a call mispredicts by callgrind's model, proved and plain."
-BECAUSE = "More branches are mispredicted, by over 10 %, which is a likely cause."
+BECAUSE = """
+Of the fill decision 61 has the cause. Of another call more branches are mispredicted, by over 10 %, which is a likely cause.
+"""
 GROWTH = """
 Instructions as the list grows, g = 11: of the check, and of the map, the way back and the plan less a check; in brackets those
 for each added entry of the list, from the row above. A check marks every pair, (k-1)/2 for each entry. Last, the plan's for
@@ -93,8 +96,8 @@ class Pair(Place):
     def note(self):
         return f"{self.ratio():.2f}; {self.proved.mispredicted:.0f} and {self.plain.mispredicted:.0f}"
 
-    def branches(self):
-        return self.proved.mispredicted > MORE * self.plain.mispredicted
+    def known(self):
+        return self.call == "fill" or self.proved.mispredicted > MORE * self.plain.mispredicted
 
 
 class Counts:
@@ -137,8 +140,8 @@ class Counts:
         return [
             Target("design check, instructions over those of plain C", 1.2, first, most=True),
             Target("the other calls without bytes, instructions over those of plain C", 1.2, rest, most=True),
-            Target("calls without bytes, time of plain C over the library's", 0.9, times,
-                   Cause(Pair.note, SAYS, BECAUSE, Pair.branches)),
+            Target("calls without bytes, time of plain C over the library's", LEAST, times,
+                   Cause(Pair.note, SAYS, BECAUSE, Pair.known)),
             Target("check and map, instructions for each entry added to the longest list over those for the shortest", 1.2,
                    whole, most=True),
             Target("map of one list at other g and u, instructions over those at g = 11, u = 512", 1.1, self.other_sizes(),
