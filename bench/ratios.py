@@ -26,8 +26,8 @@ MEMSET = "In brackets memset, which checks nothing."
 CHECK = "In brackets the share of its check, which memset has not."
 AS_LONG = "C takes as long, within 5 %, or longer: the cause is not the library."
 REGISTERS = """
-By 16 bytes C takes as long, within 5 %, or longer, and by 64 it is nearer to memcpy than to that: the registers are the cause. The
-library has those that every x86-64 has.
+By 16 bytes C takes as long, within 5 %, or longer: the cause is what memcpy does otherwise, wider registers among it (the second
+figure is what they give alone). The library has those that every x86-64 has.
 """
 OTHERS = """
 C takes as long, within 5 %, or longer: the cause is what ISA-L has and C has not. It may take registers of {}, the library has
@@ -73,15 +73,11 @@ class Found:
                      lambda c: (self.ratio(c, name) or 0) >= NEARLY)
 
     def registers(self):
-        """They are the cause where memcpy's lead is C's by wider ones over C's by those that the library has."""
-        def told(c):
-            return [self.ratio(c, name) for name in ("memcpy", "narrow", "wide")]
+        """The library is not the cause where C by its registers takes as long."""
+        def note(c):
+            return " and ".join(shown(self.ratio(c, name)) or "not told" for name in ("narrow", "wide"))
 
-        def holds(c):
-            memcpy, narrow, wide = told(c)
-            return bool(narrow and wide) and narrow >= NEARLY and wide < (narrow + memcpy) / 2
-
-        return Cause(lambda c: " and ".join(shown(x) or "not told" for x in told(c)[1:]), LOOPS, REGISTERS, holds)
+        return Cause(note, LOOPS, REGISTERS, lambda c: (self.ratio(c, "narrow") or 0) >= NEARLY)
 
     def check(self):
         """The check is the cause where less it the call would do."""

@@ -35,9 +35,9 @@ through the sets by number, a tuple's outer ones first; the library reads its in
 the same passes in that order.
 """
 RUNS = """
-Why inner sets first: a region's bytes lie in g runs, one a disk, and a row of labels in kg, which is 110 at v = 91, g = 11. What is
-read first comes from memory; the second time a tuple of 512-byte units is in the second cache. ns for each byte that is read
-from memory row by row, 512 bytes of each run, by the number of runs (`bench/runs.c`, fused C):
+Why inner sets first: a region's bytes lie in g runs, one a disk, and a row of labels in kg, which is 44, 55 and 110 at g = 11 and
+v = 13, 21 and 91. What is read first comes from memory; the second time a tuple of 512-byte units is in the second cache. ns for
+each byte that is read from memory row by row, 512 bytes of each run, by the number of runs (`bench/runs.c`, fused C):
 """
 REBUILD = """
 Rebuild of one disk, of three disks of one group, and of two of one group and one of another, us, the design check included. C
