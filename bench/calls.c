@@ -86,7 +86,7 @@ RUN(plan, GEOMETRY, stepped(7919, s.disks), ours, PLAN_MAX)
 static void time_call(const char *name, void (*run)(const contestant *, uint32_t)) {
     static contestant both[] = {{.name = "library"}, {.name = "plain", .idle = 1}};
     both[0].run = both[1].run = run;
-    RACE(name, both, 0.1);
+    RACE(name, both, 0.3);
     if (sink != 0) fail("a call is refused");
 }
 

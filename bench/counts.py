@@ -22,11 +22,12 @@ of the thread; the last column is plain C's time over the library's: above 1 the
 checks the design anew, so a map's count holds a check's. All answers and lists are compared while they are counted, and the
 plans of all disks besides. The fill is there where the rows of k are those of the held set.
 """
-MORE = 1.1  # more than plain C's
+MORE, MISSED = 1.05, 1.1  # than plain C: instructions, and mispredicted branches
 LEAST = 0.9  # of plain C's time over the library's
 SAYS = "In brackets instructions over those of plain C; branches that a call mispredicts by callgrind's model, proved and plain."
 BECAUSE = """
-Of the fill decision 61 has the cause. Of another call more branches are mispredicted, by over 10 %, which is a likely cause.
+Of the fill decision 61 has the cause. Another call makes more instructions, by over 5 %, or mispredicts more branches, by over
+10 %, which is a likely cause.
 """
 GROWTH = """
 Instructions as the list grows, g = 11: of the check, and of the map, the way back and the plan less a check; in brackets those
@@ -97,7 +98,7 @@ class Pair(Place):
         return f"{self.ratio():.2f}; {self.proved.mispredicted:.0f} and {self.plain.mispredicted:.0f}"
 
     def known(self):
-        return self.call == "fill" or self.proved.mispredicted > MORE * self.plain.mispredicted
+        return self.call == "fill" or self.ratio() > MORE or self.proved.mispredicted > MISSED * self.plain.mispredicted
 
 
 class Counts:

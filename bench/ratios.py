@@ -26,8 +26,8 @@ MEMSET = "In brackets memset, which checks nothing."
 CHECK = "In brackets the share of its check, which memset has not."
 AS_LONG = "C takes as long, within 5 %, or longer: the cause is not the library."
 REGISTERS = """
-By 16 bytes C takes as long, within 5 %, or longer: the cause is what memcpy does otherwise, wider registers among it (the second
-figure is what they give alone). The library has those that every x86-64 has.
+By 16 bytes C is nearer to the library than to memcpy: the cause of most of it is what memcpy does otherwise, wider registers among
+it (the second figure is what they give alone). The library has those that every x86-64 has.
 """
 OTHERS = """
 C takes as long, within 5 %, or longer: the cause is what ISA-L has and C has not. It may take registers of {}, the library has
@@ -73,11 +73,11 @@ class Found:
                      lambda c: (self.ratio(c, name) or 0) >= NEARLY)
 
     def registers(self):
-        """The library is not the cause where C by its registers takes as long."""
+        """The library is not the cause where C by its registers is nearer to it than to memcpy."""
         def note(c):
             return " and ".join(shown(self.ratio(c, name)) or "not told" for name in ("narrow", "wide"))
 
-        return Cause(note, LOOPS, REGISTERS, lambda c: (self.ratio(c, "narrow") or 0) >= NEARLY)
+        return Cause(note, LOOPS, REGISTERS, lambda c: (self.ratio(c, "narrow") or 0) > (1 + self.ratio(c, "memcpy")) / 2)
 
     def check(self):
         """The check is the cause where less it the call would do."""
