@@ -30,9 +30,14 @@ static piece piece_at(const image *opened, uint64_t at, uint64_t left) {
     return (piece){unit > UINT32_MAX ? UINT32_MAX : (uint32_t)unit, offset, left < room ? left : room};
 }
 
-static int refused(const image *opened, piece asked, himzolven_answer answer) {
-    question words = {.user_unit = asked.user_unit, .offset = asked.offset, .length = asked.length, .marks = opened->state.marks};
+static int refused_of(const image *opened, piece asked, bool or_more, himzolven_answer answer) {
+    question words = {.user_unit = asked.user_unit, .offset = asked.offset, .length = asked.length, .or_more = or_more,
+                      .marks = opened->state.marks};
     return tell_refusal(&opened->geometry, &words, answer.refusal, answer.place);
+}
+
+static int refused(const image *opened, piece asked, himzolven_answer answer) {
+    return refused_of(opened, asked, false, answer);
 }
 
 /* Whether the library would take the whole stream; nothing is stored. A signal to end leaves the rest unasked. */
@@ -166,7 +171,7 @@ static int write_unit(image *opened, uint32_t user_unit, uint64_t offset, uint64
     piece all = {user_unit, offset, (uint64_t)count};
     himzolven_answer answer = try_write(opened, user_unit, offset, all.length);
     if (answer.refusal != HIMZOLVEN_ACCEPTED) {
-        return refused(opened, all, answer);
+        return refused_of(opened, all, all.length > opened->geometry.u, answer);
     }
     return store_chunk(opened, (uint64_t)user_unit * opened->geometry.u + offset, bytes, (size_t)count, done);
 }

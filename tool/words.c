@@ -171,8 +171,8 @@ static void say_asked(FILE *to, const geometry *of, const question *asked, uint3
         fprintf(to, "there is no user unit %" PRIu32 "; user units are 0 to %" PRIu32, asked->user_unit, sizes.user_units - 1);
         break;
     case HIMZOLVEN_BAD_RANGE:
-        fprintf(to, "%" PRIu64 " bytes from offset %" PRIu64 " leave the unit of %" PRIu32 " bytes; --at goes over several units",
-                asked->length, asked->offset, of->u);
+        fprintf(to, "%" PRIu64 " bytes%s from offset %" PRIu64 " leave the unit of %" PRIu32 " bytes; --at goes over several units",
+                asked->length, asked->or_more ? " or more" : "", asked->offset, of->u);
         break;
     case HIMZOLVEN_LOST: say_lost(to, of, asked->user_unit, place); break;
     case HIMZOLVEN_INCOMPLETE: say_incomplete(to, of, asked, place); break;

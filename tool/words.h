@@ -13,6 +13,7 @@ typedef struct {
     uint32_t user_unit;
     uint64_t offset;
     uint64_t length;
+    bool or_more; /* the rest of the input was not taken */
     const uint8_t *marks;
 } question;
 

@@ -124,6 +124,7 @@ def call_refusals(desk):
     ]:
         says(desk, words, REFUSED, pattern, b"four")
         expect(path.read_bytes() == before, f"{words[0]} {words[2:]}: refused, and the image changes")
+    says(desk, ["write", path, "--unit", 83], REFUSED, r"number 11, place 0: 513 bytes or more from offset 0 leave", bytes(600))
     says(desk, ["fail", path, 3, 4, "--force"], 0, r"^lost: disks 0 1 3 4 18\n$")
     says(desk, ["rebuild", path], REFUSED, r"number 13, place 1: .* lost: disks 0 1 3 4 18\n")
     says(desk, ["status", path], 0, r"lost     disks 0 1 3 4 18\n         rebuild is refused, number 13, place 1")

@@ -15,6 +15,7 @@ FAULTS = [
     ("transfer.c", "work_begin(length, \"asking about user bytes from %\" PRIu64 \" on\", at);", "", commands.asking),
     ("transfer.c", "code == EXIT_DONE && done < length && !work_stopped()", "code == EXIT_DONE && done < length", commands.asking),
     ("transfer.c", "end = at + 1;", "", commands.call_refusals),
+    ("transfer.c", "all.length > opened->geometry.u, answer", "false, answer", commands.call_refusals),
     ("disks.c", "memcpy(opened->state.marks, marks, sizeof marks);", "", contents.sessions),
     ("disks.c", "hit[disk] != 0 && i < disk_bytes", "hit[disk] != 0 && i < disk_bytes / 4", contents.sessions),
     ("disks.c", "|| force", "|| true || force", commands.call_refusals),
