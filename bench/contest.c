@@ -324,33 +324,25 @@ PASS void fused_restore(uint8_t *array, size_t target, const size_t *sources, si
     for (; i < u; i++) array[target + i] = sum_byte(array, sources, count, i);
 }
 
-PASS void copy_pass(uint8_t *restrict to, const uint8_t *restrict from, size_t n) {
-    size_t i = 0;
-    for (; i + 64 <= n; i += 64) {
-        const block *p = (const block *)(from + i);
-        block *q = (block *)(to + i);
-        q[0] = p[0];
-        q[1] = p[1];
-        q[2] = p[2];
-        q[3] = p[3];
-    }
-    for (; i < n; i++) to[i] = from[i];
-}
-
 typedef uint8_t wide_block __attribute__((vector_size(64), aligned(1), may_alias));
 
-PASS __attribute__((target("avx512f"))) void wide_pass(uint8_t *restrict to, const uint8_t *restrict from, size_t n) {
-    size_t i = 0;
-    for (; i + 256 <= n; i += 256) {
-        const wide_block *p = (const wide_block *)(from + i);
-        wide_block *q = (wide_block *)(to + i);
-        q[0] = p[0];
-        q[1] = p[1];
-        q[2] = p[2];
-        q[3] = p[3];
+/* four registers a turn */
+#define COPY_BY(type, name) \
+    void name(uint8_t *restrict to, const uint8_t *restrict from, size_t n) { \
+        size_t i = 0; \
+        for (; i + 4 * sizeof(type) <= n; i += 4 * sizeof(type)) { \
+            const type *p = (const type *)(from + i); \
+            type *q = (type *)(to + i); \
+            q[0] = p[0]; \
+            q[1] = p[1]; \
+            q[2] = p[2]; \
+            q[3] = p[3]; \
+        } \
+        for (; i < n; i++) to[i] = from[i]; \
     }
-    for (; i < n; i++) to[i] = from[i];
-}
+
+PASS COPY_BY(block, copy_pass)
+PASS __attribute__((target("avx512f"))) COPY_BY(wide_block, wide_pass)
 
 int has_wide(void) {
     return __builtin_cpu_supports("avx512f") != 0;
