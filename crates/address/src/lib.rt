@@ -1,4 +1,6 @@
 // The address map: a user unit's four places, and the way back from a disk and unit to its role.
+#![tactic(auto)]
+
 ghost use Rattle.std.specs.Prelude.{◌≡◌};
 ghost use Rattle.refusal.specs.Refusal.{answer, refused};
 ghost use Rattle.layout.specs.Places.{four_of, role_at};
@@ -9,13 +11,13 @@ use geometry::{Disk, Geometry, Unit, UserUnit};
 use layout::Four;
 use refusal::{Checked, Refusal};
 
-#[derive(Drop)]
+#[derive(Clone, Copy)]
 pub enum Mapped {
     Places(Four),
     Refused(Refusal),
 }
 
-#[derive(Drop)]
+#[derive(Clone, Copy)]
 pub enum Located {
     Has(Role),
     Refused(Refusal),

@@ -1,5 +1,7 @@
 // The answers of the calls laid out flat for C: one struct of numbers, so that no result has a length that could be wrong. A
 // refusal's number and place come first (0 and 0: accepted); a refused call's other numbers are 0.
+#![tactic(auto)]
+
 ghost use Rattle.std.specs.Prelude.{◌≡◌};
 ghost use Rattle.refusal.specs.Refusal.{checked_outcome};
 ghost use Rattle.sizes.specs.Sizes.{sized_outcome};
@@ -18,14 +20,14 @@ use refusal::Checked;
 use sizes::Sized;
 
 #[repr(C)]
-#[derive(Drop)]
+#[derive(Clone, Copy)]
 pub struct Answer {
     pub refusal: u32,
     pub place: u32,
 }
 
 #[repr(C)]
-#[derive(Drop)]
+#[derive(Clone, Copy)]
 pub struct SizesAnswer {
     pub refusal: u32,
     pub place: u32,
@@ -39,7 +41,7 @@ pub struct SizesAnswer {
 }
 
 #[repr(C)]
-#[derive(Drop)]
+#[derive(Clone, Copy)]
 pub struct MapAnswer {
     pub refusal: u32,
     pub place: u32,
@@ -54,7 +56,7 @@ pub struct MapAnswer {
 }
 
 #[repr(C)]
-#[derive(Drop)]
+#[derive(Clone, Copy)]
 pub struct RoleAnswer {
     pub refusal: u32,
     pub place: u32,
@@ -65,7 +67,7 @@ pub struct RoleAnswer {
 }
 
 #[repr(C)]
-#[derive(Drop)]
+#[derive(Clone, Copy)]
 pub struct AuditAnswer {
     pub refusal: u32,
     pub place: u32,
@@ -74,7 +76,7 @@ pub struct AuditAnswer {
 }
 
 #[repr(C)]
-#[derive(Drop)]
+#[derive(Clone, Copy)]
 pub struct CountAnswer {
     pub refusal: u32,
     pub place: u32,

@@ -5,7 +5,7 @@ use mathlib.Core.Path.{◌≡◌, sym, ◌∙◌}
 use mathlib.Core.List.{List}
 use lib.ListN.{length}
 use contract.Lifetimes.{Lfts}
-use denote.Ref.{Bor}
+use denote.Ref.{Bor, MutBor}
 use Rattle.refusal.specs.declared.Checked.{Checked}
 use Rattle.refusal.specs.declared.Checked.TheVariants.{Fine}
 use Rattle.refusal.specs.Refusal.{checked_outcome, verdict}
@@ -23,7 +23,7 @@ pub check_is_exact :
     CheckAllowed κs G design bytes marks r → Exact (array_rows G design.now bytes marks.now) (checked_outcome r)
 check_is_exact κs G design bytes marks r p = rw p (array_exact G design.now bytes marks.now tt)
 
-module _ (κs : Lfts 3) (G : Geometry) (design array marks a m : Bor (List ℕ)) where
+module _ (κs : Lfts 3) (G : Geometry) (design : Bor (List ℕ)) (array marks a m : MutBor (List ℕ)) where
   pub format_is_exact :
       (r : Checked) → FormatAllowed κs G design array marks r a m →
       Exact (array_rows G design.now (length array.now) marks.now) (checked_outcome r)

@@ -44,9 +44,9 @@ module _ (G : Geometry) (bytes : ℕ) where
   words_fits e h = both_and _ _ (eq-eqb bytes (bytes_of G) e) (le-leb (bytes_of G) 1073741824 h)
 
 module _ (marks : List ℕ) (x : ℕ) where
-  pub mark_high : 1 < get_or marks x 0 → mark_high marks x ≡ true
+  pub mark_high_lem : 1 < get_or marks x 0 → mark_high marks x ≡ true
   unfolding mark_high
-  mark_high h = lt-ltb 1 (get_or marks x 0) h
+  mark_high_lem h = lt-ltb 1 (get_or marks x 0) h
 
   pub high_mark : mark_high marks x ≡ true → 1 < get_or marks x 0
   unfolding mark_high

@@ -22,7 +22,7 @@ use Rattle.sizes.specs.Reasons.{sizes_rows}
 use Rattle.sizes.proofs.Reasons.{sizes_fits}
 use Rattle.array.specs.Rules.{array_fits, mark_high, array_rules, range_rules}
 use Rattle.array.specs.Reasons.{OtherLength, LowestHigh, array_rows, range_rows}
-use Rattle.array.proofs.Fits.{fits_above, fits_words, words_fits, mark_high, high_mark}
+use Rattle.array.proofs.Fits.{fits_above, fits_words, words_fits, mark_high_lem, high_mark}
 
 module _ (G : Geometry) (bytes : ℕ) (marks : List ℕ) where
   other_words : not (array_fits G bytes && eqb (length marks) (disks_of G)) ≡ true → OtherLength G bytes marks
@@ -49,7 +49,7 @@ module _ (G : Geometry) (bytes : ℕ) (marks : List ℕ) where
   fit_7 = zero_fit 7 _ (OtherLength G bytes marks) other_words words_other
 
   fit_8 : Fit (rule 8 (any_below (mark_high marks) (length marks)) (lowest (mark_high marks) (length marks))) (row 8 (LowestHigh marks))
-  fit_8 = first_fit 8 (mark_high marks) (length marks) (λ (x : ℕ). 1 < get_or marks x 0) (high_mark marks) (mark_high marks)
+  fit_8 = first_fit 8 (mark_high marks) (length marks) (λ (x : ℕ). 1 < get_or marks x 0) (high_mark marks) (mark_high_lem marks)
 
 module _ (G : Geometry) (d : List ℕ) (bytes : ℕ) (marks : List ℕ) where
   pub array_rows_fit : Fits (array_rules G d bytes marks) (array_rows G d bytes marks)

@@ -5,7 +5,7 @@ use mathlib.Core.Path.{◌≡◌, refl, sym, ◌∙◌}
 use mathlib.Core.List.{List}
 use lib.ListN.{length}
 use contract.Lifetimes.{Lfts}
-use denote.Ref.{MutBor, at_last}
+use denote.Ref.{Bor, MutBor, at_last}
 use Rattle.refusal.specs.declared.Checked.{Checked}
 use Rattle.refusal.specs.declared.Checked.TheVariants.{Fine, Refused}
 use Rattle.refusal.specs.Refusal.{Outcome, refused, accepted, verdict, kept, checked_outcome}
@@ -22,16 +22,16 @@ some_checked (refused n p) = (Refused (record { number = n; place = p }), refl)
 some_checked (accepted tt) = (Fine, refl)
 
 -- what the contracts allow to be answered, and to be held by the array and the marks at return
-abbrev pub CheckAllowed : Lfts 2 → Geometry → MutBor (List ℕ) → ℕ → MutBor (List ℕ) → Checked → Type 0
+abbrev pub CheckAllowed : Lfts 2 → Geometry → Bor (List ℕ) → ℕ → Bor (List ℕ) → Checked → Type 0
 CheckAllowed κs G design bytes marks r =
     check.Post κs (G, (design, (bytes, (marks, tt)))) r (G, (design, (bytes, (marks, tt))))
 
 abbrev pub FormatAllowed :
-    Lfts 3 → Geometry → (design array marks : MutBor (List ℕ)) → Checked → (a m : MutBor (List ℕ)) → Type 0
+    Lfts 3 → Geometry → (design : Bor (List ℕ)) → (array marks : MutBor (List ℕ)) → Checked → (a m : MutBor (List ℕ)) → Type 0
 FormatAllowed κs G design array marks r a m =
     format.Post κs (G, (design, (array, (marks, tt)))) r (G, (design, (a, (m, tt))))
 
-module _ (κs : Lfts 2) (G : Geometry) (design : MutBor (List ℕ)) (bytes : ℕ) (marks : MutBor (List ℕ)) where
+module _ (κs : Lfts 2) (G : Geometry) (design : Bor (List ℕ)) (bytes : ℕ) (marks : Bor (List ℕ)) where
   pub check_two_results :
       (r s : Checked) → CheckAllowed κs G design bytes marks r → CheckAllowed κs G design bytes marks s → r ≡ s
   check_two_results r s p q = same_checked r s (p ∙ sym q)
@@ -39,7 +39,7 @@ module _ (κs : Lfts 2) (G : Geometry) (design : MutBor (List ℕ)) (bytes : ℕ
   pub check_some_result : (r : Checked) × CheckAllowed κs G design bytes marks r
   check_some_result = some_checked _
 
-module _ (κs : Lfts 3) (G : Geometry) (design array marks : MutBor (List ℕ)) where
+module _ (κs : Lfts 3) (G : Geometry) (design : Bor (List ℕ)) (array marks : MutBor (List ℕ)) where
   pub format_two_results :
       (r s : Checked) (a b m n : MutBor (List ℕ)) →
       FormatAllowed κs G design array marks r a m → FormatAllowed κs G design array marks s b n →

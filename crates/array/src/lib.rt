@@ -1,4 +1,6 @@
 // One lent buffer holds all disks, disk 0 whole, then disk 1; marks are one byte a disk (01).
+#![tactic(auto)]
+
 ghost use Rattle.std.specs.Prelude.{◌+◌, ◌≤◌, ◌<◌, ◌≡◌, ltb, length};
 ghost use Rattle.counting.specs.Counting.{lowest, any_below};
 ghost use Rattle.refusal.specs.Refusal.{verdict, kept, checked_outcome};

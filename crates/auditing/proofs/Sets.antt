@@ -32,8 +32,8 @@ module _ (G : Geometry) (s : Sound G) (xs : List ℕ) where
     pub label_inside : (n : ℕ) → RegionsFit G ps → i < G.g → n ≡ bytes_of G → Inside n xs G.u
     label_inside n f h k = subst⁻¹ (λ (x : List ℕ). Inside n x G.u) e (labels_inside G s ps i c n f h k)
 
-    pub label_zero : (a : List ℕ) (b : Bool) → b ≡ zero_sum a xs G.u → b ≡ label_zero G ps a i c
-    label_zero a b h = h ∙ ap (λ (x : List ℕ). zero_sum a x G.u) e
+    pub label_zero_lem : (a : List ℕ) (b : Bool) → b ≡ zero_sum a xs G.u → b ≡ label_zero G ps a i c
+    label_zero_lem a b h = h ∙ ap (λ (x : List ℕ). zero_sum a x G.u) e
 
   module _ (p j : ℕ) (e : xs ≡ diagonal_starts G p j) where
     pub diagonal_long : length xs ≡ G.g
@@ -42,8 +42,8 @@ module _ (G : Geometry) (s : Sound G) (xs : List ℕ) where
     pub diagonal_inside : (n : ℕ) → RegionFits G p → n ≡ bytes_of G → Inside n xs G.u
     diagonal_inside n f k = subst⁻¹ (λ (x : List ℕ). Inside n x G.u) e (diagonals_inside G s p j n f k)
 
-    pub diagonal_zero : (a : List ℕ) (b : Bool) → b ≡ zero_sum a xs G.u → b ≡ diagonal_zero G p a j
-    diagonal_zero a b h = h ∙ ap (λ (x : List ℕ). zero_sum a x G.u) e
+    pub diagonal_zero_lem : (a : List ℕ) (b : Bool) → b ≡ zero_sum a xs G.u → b ≡ diagonal_zero G p a j
+    diagonal_zero_lem a b h = h ∙ ap (λ (x : List ℕ). zero_sum a x G.u) e
 
 -- ---- rows of sets: what holds after i of n rows of g sets, the next of which has number `next`
 pub record Rows (z : ℕ → Bool) (f : Found) (s n g : ℕ) (x : Found) (next i : ℕ) : Type 0 where
@@ -116,17 +116,17 @@ module _ (G : Geometry) (d a : List ℕ) (s : Sound G) (t : ℕ) (h : t < tuples
       ∙ diagonal_starts_are G d t l j v.position
       ∙ sym (set_starts_inner G s d t l j v))
 
-  outer_zeros : (x : ℕ) → x < (G.g - 1) * G.g → outer_zeros G ps a x ≡ set_zero G d a (t * tuple_sets_of G + x)
+  outer_zeros_lem : (x : ℕ) → x < (G.g - 1) * G.g → outer_zeros G ps a x ≡ set_zero G d a (t * tuple_sets_of G + x)
   unfolding outer_number
-  outer_zeros x k =
+  outer_zeros_lem x k =
       outer_zero (x / G.g) (x % G.g)
       (record { tuple = h; row = (div-lt_iff_lt-mul g_pos).1 k; column = mod-lt x g_pos })
       ∙ ap (λ (y : ℕ). set_zero G d a (t * tuple_sets_of G + y)) (div-add-mod' x G.g)
 
-  inner_zeros :
+  inner_zeros_lem :
       (x : ℕ) → x < G.k * G.g → inner_zeros G ps a x ≡ set_zero G d a (t * tuple_sets_of G + (G.g - 1) * G.g + x)
   unfolding inner_number
-  inner_zeros x k =
+  inner_zeros_lem x k =
       let q : x / G.g * G.g + x % G.g ≡ x = div-add-mod' x G.g in
       let n : t * tuple_sets_of G + ((G.g - 1) * G.g + x / G.g * G.g + x % G.g) ≡ t * tuple_sets_of G + (G.g - 1) * G.g + x = omega arith in
       inner_zero (x / G.g) (x % G.g)
@@ -139,8 +139,8 @@ module _ (G : Geometry) (d a : List ℕ) (s : Sound G) (t : ℕ) (h : t < tuples
   unfolding tuple_found
   tuple_below =
       ap (λ (f : Found). found_from (inner_zeros G ps a) f (t * tuple_sets_of G + (G.g - 1) * G.g) (G.k * G.g))
-      (below_from G d a (outer_zeros G ps a) (t * tuple_sets_of G) ((G.g - 1) * G.g) outer_zeros)
-      ∙ below_from G d a (inner_zeros G ps a) (t * tuple_sets_of G + (G.g - 1) * G.g) (G.k * G.g) inner_zeros
+      (below_from G d a (outer_zeros G ps a) (t * tuple_sets_of G) ((G.g - 1) * G.g) outer_zeros_lem)
+      ∙ below_from G d a (inner_zeros G ps a) (t * tuple_sets_of G + (G.g - 1) * G.g) (G.k * G.g) inner_zeros_lem
       ∙ ap (found_below G d a) whole
     where
       whole : t * tuple_sets_of G + (G.g - 1) * G.g + G.k * G.g ≡ (t + 1) * tuple_sets_of G
@@ -150,13 +150,13 @@ module _ (G : Geometry) (d a : List ℕ) (s : Sound G) (t : ℕ) (h : t < tuples
 pub found_bad : (z : ℕ → Bool) (f : Found) (s n : ℕ) (y : Found) → y ≡ found_from z f s n → y.bad ≤ f.bad + n
 found_bad z f s n y e = omega (arith, ap (λ (x : Found). x.bad) e, from_bad z f s n)
 
-pub tuple_found :
+pub tuple_found_lem :
     (G : Geometry) (ps a : List ℕ) (f : Found) (s : ℕ) (y z : Found)
     → y ≡ found_from (outer_zeros G ps a) f s ((G.g - 1) * G.g)
     → z ≡ found_from (inner_zeros G ps a) (found 0 0) (s + (G.g - 1) * G.g) (G.k * G.g)
     → after z y ≡ tuple_found G ps a f s
 unfolding tuple_found
-tuple_found G ps a f s y z e q =
+tuple_found_lem G ps a f s y z e q =
     ap₂ after q e ∙ from_after (inner_zeros G ps a) (found_from (outer_zeros G ps a) f s ((G.g - 1) * G.g)) _ _
 
 pub tuple_regions :

@@ -1,4 +1,6 @@
 // The audit: how many sets don't XOR to zero, and the lowest of them (01). It is lent no marks.
+#![tactic(auto)]
+
 ghost use Rattle.std.specs.Prelude.{◌+◌, ◌-◌, ◌*◌, ◌≤◌, ◌<◌, ◌≡◌, length};
 ghost use Rattle.refusal.specs.Refusal.{answer};
 ghost use Rattle.geometry.specs.Geometry.{Sound, tuples_of, bytes_of};
@@ -13,7 +15,7 @@ use finding::Found;
 use geometry::{Geometry, Tuple};
 use refusal::{Checked, Refusal};
 
-#[derive(Drop)]
+#[derive(Clone, Copy)]
 pub enum Audited {
     Found(Found),
     Refused(Refusal),

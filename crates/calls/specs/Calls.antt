@@ -55,13 +55,13 @@ use Rattle.host.proofs.himzolven_write.Reads as c-write
 use Rattle.host.proofs.himzolven_audit.Reads as c-audit
 use Rattle.host.proofs.himzolven_rebuild.Reads as c-rebuild
 use Rattle.host.proofs.himzolven_plan.Reads as c-plan
-use Rattle.calls.specs.Refuses.{Lent, nothing, both, always, Refuses}
+use Rattle.calls.specs.Refuses.{Lent, LentMut, nothing, both, always, Refuses}
 use Rattle.calls.specs.Heard.{heard_answer, heard_sizes, heard_map, heard_role, heard_audit, heard_count}
 
 -- the calls in Rattle
 pub record EveryCall : Type 0 where
   pub fill :
-      (κs : Lfts 1) (v : ℕ) (design : Lent) →
+      (κs : Lfts 1) (v : ℕ) (design : LentMut) →
       Refuses (fill.Pre κs (v, (design, tt)))
       (1 ∷ 3 ∷ []) (fill_rows v (length design.now)) checked_outcome (λ x. x.now) design
       (λ r l. fill.Post κs (v, (design, tt)) r (v, (l, tt)))
@@ -96,13 +96,13 @@ pub record EveryCall : Type 0 where
       (2 ∷ 3 ∷ 4 ∷ 5 ∷ 6 ∷ 7 ∷ 8 ∷ []) (array_rows G design.now bytes marks.now) checked_outcome nothing tt
       (λ r l. check_array.Post κs (G, (design, (bytes, (marks, tt)))) r (G, (design, (bytes, (marks, tt)))))
   pub format :
-      (κs : Lfts 3) (G : Geometry) (design array marks : Lent) →
+      (κs : Lfts 3) (G : Geometry) (design : Lent) (array marks : LentMut) →
       Refuses (format.Pre κs (G, (design, (array, (marks, tt)))))
       (2 ∷ 3 ∷ 4 ∷ 5 ∷ 6 ∷ 7 ∷ 8 ∷ []) (array_rows G design.now (length array.now) marks.now)
       checked_outcome both (array, marks)
       (λ r l. format.Post κs (G, (design, (array, (marks, tt)))) r (G, (design, (l.0, (l.1, tt)))))
   pub read :
-      (κs : Lfts 4) (G : Geometry) (design array marks : Lent) (n : UserUnit) (offset : ℕ) (out : Lent) →
+      (κs : Lfts 4) (G : Geometry) (design array marks : Lent) (n : UserUnit) (offset : ℕ) (out : LentMut) →
       Refuses (read.Pre κs (G, (design, (array, (marks, (n, (offset, (out, tt))))))))
       (2 ∷ 3 ∷ 4 ∷ 5 ∷ 6 ∷ 7 ∷ 8 ∷ 10 ∷ 11 ∷ 12 ∷ [])
       (read_rows G design.now (length array.now) marks.now n.0 offset (length out.now))
@@ -110,7 +110,7 @@ pub record EveryCall : Type 0 where
       (λ r l. read.Post κs (G, (design, (array, (marks, (n, (offset, (out, tt))))))) r
       (G, (design, (array, (marks, (n, (offset, (l, tt))))))))
   pub write :
-      (κs : Lfts 4) (G : Geometry) (design array marks : Lent) (n : UserUnit) (offset : ℕ) (new : Lent) →
+      (κs : Lfts 4) (G : Geometry) (design : Lent) (array : LentMut) (marks : Lent) (n : UserUnit) (offset : ℕ) (new : Lent) →
       Refuses (write.Pre κs (G, (design, (array, (marks, (n, (offset, (new, tt))))))))
       (2 ∷ 3 ∷ 4 ∷ 5 ∷ 6 ∷ 7 ∷ 8 ∷ 10 ∷ 11 ∷ 12 ∷ [])
       (write_rows G design.now (length array.now) marks.now n.0 offset (length new.now))
@@ -123,13 +123,13 @@ pub record EveryCall : Type 0 where
       (2 ∷ 3 ∷ 4 ∷ 5 ∷ 6 ∷ 7 ∷ []) (audit_rows G design.now (length array.now)) audited_outcome nothing tt
       (λ r l. audit.Post κs (G, (design, (array, tt))) r (G, (design, (array, tt))))
   pub rebuild :
-      (κs : Lfts 3) (G : Geometry) (design array marks : Lent) →
+      (κs : Lfts 3) (G : Geometry) (design : Lent) (array marks : LentMut) →
       Refuses (rebuild.Pre κs (G, (design, (array, (marks, tt)))))
       (2 ∷ 3 ∷ 4 ∷ 5 ∷ 6 ∷ 7 ∷ 8 ∷ 13 ∷ []) (rebuild_rows G design.now (length array.now) marks.now)
       rebuilt_outcome both (array, marks)
       (λ r l. rebuild.Post κs (G, (design, (array, (marks, tt)))) r (G, (design, (l.0, (l.1, tt)))))
   pub plan :
-      (κs : Lfts 2) (G : Geometry) (design : Lent) (disk : Disk) (list : Lent) →
+      (κs : Lfts 2) (G : Geometry) (design : Lent) (disk : Disk) (list : LentMut) →
       Refuses (plan.Pre κs (G, (design, (disk, (list, tt)))))
       (2 ∷ 3 ∷ 4 ∷ 5 ∷ 6 ∷ 9 ∷ 14 ∷ []) (plan_rows G design.now disk.0 (length list.now)) planned_outcome (λ x. x.now) list
       (λ r l. plan.Post κs (G, (design, (disk, (list, tt)))) r (G, (design, (disk, (l, tt)))))
@@ -157,7 +157,7 @@ pub record EveryCall : Type 0 where
 -- the functions exported to C, `himzolven_fill` and so on
 pub record EveryFunctionForC : Type 0 where
   pub fill :
-      (κs : Lfts 1) (v : ℕ) (design : Lent) →
+      (κs : Lfts 1) (v : ℕ) (design : LentMut) →
       Refuses (c-fill.Pre κs (v, (design, tt)))
       (1 ∷ 3 ∷ []) (fill_rows v (length design.now)) heard_answer (λ x. x.now) design
       (λ r l. c-fill.Post κs (v, (design, tt)) r (v, (l, tt)))
@@ -183,7 +183,7 @@ pub record EveryFunctionForC : Type 0 where
       (λ r l. c-role.Post κs (v, (k, (g, (u, (design, (disk, (unit, tt))))))) r
       (v, (k, (g, (u, (design, (disk, (unit, tt))))))))
   pub format :
-      (κs : Lfts 3) (v k g u : ℕ) (design array marks : Lent) →
+      (κs : Lfts 3) (v k g u : ℕ) (design : Lent) (array marks : LentMut) →
       Refuses (c-format.Pre κs (v, (k, (g, (u, (design, (array, (marks, tt))))))))
       (2 ∷ 3 ∷ 4 ∷ 5 ∷ 6 ∷ 7 ∷ 8 ∷ [])
       (array_rows (geometry v k g u) design.now (length array.now) marks.now)
@@ -191,7 +191,7 @@ pub record EveryFunctionForC : Type 0 where
       (λ r l. c-format.Post κs (v, (k, (g, (u, (design, (array, (marks, tt))))))) r
       (v, (k, (g, (u, (design, (l.0, (l.1, tt))))))))
   pub read :
-      (κs : Lfts 4) (v k g u : ℕ) (design array marks : Lent) (n offset : ℕ) (bytes : Lent) →
+      (κs : Lfts 4) (v k g u : ℕ) (design array marks : Lent) (n offset : ℕ) (bytes : LentMut) →
       Refuses (c_read.Pre κs (v, (k, (g, (u, (design, (array, (marks, (n, (offset, (bytes, tt)))))))))))
       (2 ∷ 3 ∷ 4 ∷ 5 ∷ 6 ∷ 7 ∷ 8 ∷ 10 ∷ 11 ∷ 12 ∷ [])
       (read_rows (geometry v k g u) design.now (length array.now) marks.now n offset (length bytes.now))
@@ -199,7 +199,7 @@ pub record EveryFunctionForC : Type 0 where
       (λ r l. c_read.Post κs (v, (k, (g, (u, (design, (array, (marks, (n, (offset, (bytes, tt)))))))))) r
       (v, (k, (g, (u, (design, (array, (marks, (n, (offset, (l, tt)))))))))))
   pub write :
-      (κs : Lfts 4) (v k g u : ℕ) (design array marks : Lent) (n offset : ℕ) (bytes : Lent) →
+      (κs : Lfts 4) (v k g u : ℕ) (design : Lent) (array : LentMut) (marks : Lent) (n offset : ℕ) (bytes : Lent) →
       Refuses (c-write.Pre κs (v, (k, (g, (u, (design, (array, (marks, (n, (offset, (bytes, tt)))))))))))
       (2 ∷ 3 ∷ 4 ∷ 5 ∷ 6 ∷ 7 ∷ 8 ∷ 10 ∷ 11 ∷ 12 ∷ [])
       (write_rows (geometry v k g u) design.now (length array.now) marks.now n offset (length bytes.now))
@@ -213,7 +213,7 @@ pub record EveryFunctionForC : Type 0 where
       heard_audit nothing tt
       (λ r l. c-audit.Post κs (v, (k, (g, (u, (design, (array, tt)))))) r (v, (k, (g, (u, (design, (array, tt)))))))
   pub rebuild :
-      (κs : Lfts 3) (v k g u : ℕ) (design array marks : Lent) →
+      (κs : Lfts 3) (v k g u : ℕ) (design : Lent) (array marks : LentMut) →
       Refuses (c-rebuild.Pre κs (v, (k, (g, (u, (design, (array, (marks, tt))))))))
       (2 ∷ 3 ∷ 4 ∷ 5 ∷ 6 ∷ 7 ∷ 8 ∷ 13 ∷ [])
       (rebuild_rows (geometry v k g u) design.now (length array.now) marks.now)
@@ -221,7 +221,7 @@ pub record EveryFunctionForC : Type 0 where
       (λ r l. c-rebuild.Post κs (v, (k, (g, (u, (design, (array, (marks, tt))))))) r
       (v, (k, (g, (u, (design, (l.0, (l.1, tt))))))))
   pub plan :
-      (κs : Lfts 2) (v k g u : ℕ) (design : Lent) (disk : ℕ) (list : Lent) →
+      (κs : Lfts 2) (v k g u : ℕ) (design : Lent) (disk : ℕ) (list : LentMut) →
       Refuses (c-plan.Pre κs (v, (k, (g, (u, (design, (disk, (list, tt))))))))
       (2 ∷ 3 ∷ 4 ∷ 5 ∷ 6 ∷ 9 ∷ 14 ∷ []) (plan_rows (geometry v k g u) design.now disk (length list.now))
       heard_count (λ x. x.now) list

@@ -1,7 +1,7 @@
 -- 00, demand 1, of one call at given arguments: it "takes any design list, sizes, marks and bytes .. It refuses by a numbered
 -- reason exactly when our rules give that reason. A refusal alters no lent byte." Assumes nothing.
 use Rattle.std.specs.Prelude.{ℕ, ◌≡◌, List, [], ◌∷◌}
-use Rattle.std.specs.Borrow.{Bor}
+use Rattle.std.specs.Borrow.{Bor, MutBor}
 use Rattle.refusal.specs.Refusal.{Outcome, refused, accepted}
 use Rattle.refusal.specs.Due.{Row, Exact}
 
@@ -10,12 +10,15 @@ abbrev pub numbers_of : List Row → List ℕ
 numbers_of [] = []
 numbers_of (x ∷ xs) = x.number ∷ numbers_of xs
 
--- a lent list; two of them; what the lists hold that a call may change: of one `now`, of two `both`, of none `nothing`
+-- a lent list; one that the call may change; two of these; what such lists hold: of one `now`, of two `both`, of none `nothing`
 abbrev pub Lent : Type 0
 Lent = Bor (List ℕ)
 
+abbrev pub LentMut : Type 0
+LentMut = MutBor (List ℕ)
+
 abbrev pub TwoLent : Type 0
-TwoLent = Lent × Lent
+TwoLent = LentMut × LentMut
 
 abbrev pub nothing : Unit {0} → Unit {0}
 nothing l = l

@@ -45,11 +45,11 @@ use Rattle.answers.specs.declared.RoleAnswer.{RoleAnswer}
 use Rattle.answers.specs.declared.AuditAnswer.{AuditAnswer}
 use Rattle.answers.specs.declared.CountAnswer.{CountAnswer}
 use Rattle.answers.specs.Flat.{flat_answer, flat_sizes, flat_map, flat_role, flat_audit, flat_count}
-use Rattle.calls.specs.Refuses.{Lent}
+use Rattle.calls.specs.Refuses.{Lent, LentMut}
 
 pub record SameAsTheCall : Type 0 where
   pub fill :
-      (κs : Lfts 1) (v : ℕ) (design design₁ : Lent) (c : Answer) →
+      (κs : Lfts 1) (v : ℕ) (design design₁ : LentMut) (c : Answer) →
       c-fill.Post κs (v, (design, tt)) c (v, (design₁, tt)) →
       (r : Checked) × (flat_answer (checked_outcome r) ≡ c)
       × fill.Post κs (v, (design, tt)) r
@@ -79,20 +79,20 @@ pub record SameAsTheCall : Type 0 where
       × role.Post κs (geometry v k g u, (design, (record { 0 = disk }, (record { 0 = unit }, tt)))) r
       (geometry v k g u, (design, (record { 0 = disk }, (record { 0 = unit }, tt))))
   pub format :
-      (κs : Lfts 3) (v k g u : ℕ) (design array marks array₁ marks₁ : Lent) (c : Answer) →
+      (κs : Lfts 3) (v k g u : ℕ) (design : Lent) (array marks array₁ marks₁ : LentMut) (c : Answer) →
       c-format.Post κs (v, (k, (g, (u, (design, (array, (marks, tt))))))) c (v, (k, (g, (u, (design, (array₁, (marks₁, tt))))))) →
       (r : Checked) × (flat_answer (checked_outcome r) ≡ c)
       × format.Post κs (geometry v k g u, (design, (array, (marks, tt)))) r
       (geometry v k g u, (design, (array₁, (marks₁, tt))))
   pub read :
-      (κs : Lfts 4) (v k g u : ℕ) (design array marks : Lent) (n offset : ℕ) (bytes bytes₁ : Lent) (c : Answer) →
+      (κs : Lfts 4) (v k g u : ℕ) (design array marks : Lent) (n offset : ℕ) (bytes bytes₁ : LentMut) (c : Answer) →
       c_read.Post κs (v, (k, (g, (u, (design, (array, (marks, (n, (offset, (bytes, tt)))))))))) c
       (v, (k, (g, (u, (design, (array, (marks, (n, (offset, (bytes₁, tt)))))))))) →
       (r : Checked) × (flat_answer (checked_outcome r) ≡ c)
       × read.Post κs (geometry v k g u, (design, (array, (marks, (record { 0 = n }, (offset, (bytes, tt))))))) r
       (geometry v k g u, (design, (array, (marks, (record { 0 = n }, (offset, (bytes₁, tt)))))))
   pub write :
-      (κs : Lfts 4) (v k g u : ℕ) (design array marks : Lent) (n offset : ℕ) (bytes array₁ : Lent) (c : Answer) →
+      (κs : Lfts 4) (v k g u : ℕ) (design : Lent) (array : LentMut) (marks : Lent) (n offset : ℕ) (bytes : Lent) (array₁ : LentMut) (c : Answer) →
       c-write.Post κs (v, (k, (g, (u, (design, (array, (marks, (n, (offset, (bytes, tt)))))))))) c
       (v, (k, (g, (u, (design, (array₁, (marks, (n, (offset, (bytes, tt)))))))))) →
       (r : Checked) × (flat_answer (checked_outcome r) ≡ c)
@@ -105,14 +105,14 @@ pub record SameAsTheCall : Type 0 where
       × audit.Post κs (geometry v k g u, (design, (array, tt))) r
       (geometry v k g u, (design, (array, tt)))
   pub rebuild :
-      (κs : Lfts 3) (v k g u : ℕ) (design array marks array₁ marks₁ : Lent) (c : CountAnswer) →
+      (κs : Lfts 3) (v k g u : ℕ) (design : Lent) (array marks array₁ marks₁ : LentMut) (c : CountAnswer) →
       c-rebuild.Post κs (v, (k, (g, (u, (design, (array, (marks, tt))))))) c
       (v, (k, (g, (u, (design, (array₁, (marks₁, tt))))))) →
       (r : Rebuilt) × (flat_count (rebuilt_outcome r) ≡ c)
       × rebuild.Post κs (geometry v k g u, (design, (array, (marks, tt)))) r
       (geometry v k g u, (design, (array₁, (marks₁, tt))))
   pub plan :
-      (κs : Lfts 2) (v k g u : ℕ) (design : Lent) (disk : ℕ) (list list₁ : Lent) (c : CountAnswer) →
+      (κs : Lfts 2) (v k g u : ℕ) (design : Lent) (disk : ℕ) (list list₁ : LentMut) (c : CountAnswer) →
       c-plan.Post κs (v, (k, (g, (u, (design, (disk, (list, tt))))))) c (v, (k, (g, (u, (design, (disk, (list₁, tt))))))) →
       (r : Planned) × (flat_count (planned_outcome r) ≡ c)
       × plan.Post κs (geometry v k g u, (design, (record { 0 = disk }, (list, tt)))) r

@@ -17,7 +17,7 @@ use Rattle.fourfold.specs.Theorems.{SameDifference}
 use Rattle.address.proofs.map.Reads as map
 use Rattle.address.proofs.role.Reads as role
 use Rattle.writing.proofs.write.Reads as write
-use Rattle.calls.specs.Refuses.{Lent}
+use Rattle.calls.specs.Refuses.{Lent, LentMut}
 use Rattle.calls.specs.Calls.{EveryCall, EveryFunctionForC}
 use Rattle.calls.specs.Same.{SameAsTheCall}
 use Rattle.calls.specs.Published.{unit_of, PublishedPlaces, PublishedRole, FourBack, Written}
@@ -70,7 +70,8 @@ TheMapNamesWhatTheWayBackNames =
 -- "An accepted write puts the same byte difference into one data and three parity units and touches nothing else"
 abbrev pub AnAcceptedWritePutsOneDifferenceIntoFourUnits : Type 0
 AnAcceptedWritePutsOneDifferenceIntoFourUnits =
-    (κs : Lfts 4) (G : Geometry) (design array marks : Lent) (n : UserUnit) (offset : ℕ) (bytes array₁ : Lent) →
+    (κs : Lfts 4) (G : Geometry) (design : Lent) (array : LentMut) (marks : Lent) (n : UserUnit) (offset : ℕ) (bytes : Lent)
+    (array₁ : LentMut) →
     write.Post κs (G, (design, (array, (marks, (n, (offset, (bytes, tt))))))) Fine
     (G, (design, (array₁, (marks, (n, (offset, (bytes, tt))))))) →
     SameDifference G design.now array.now array₁.now n.0 offset bytes.now
@@ -78,7 +79,8 @@ AnAcceptedWritePutsOneDifferenceIntoFourUnits =
 -- and these are the four published places of the unit
 abbrev pub AnAcceptedWriteGoesToThePublishedPlaces : Type 0
 AnAcceptedWriteGoesToThePublishedPlaces =
-    (κs : Lfts 4) (G : Geometry) (design array marks : Lent) (n : UserUnit) (offset : ℕ) (bytes array₁ : Lent) →
+    (κs : Lfts 4) (G : Geometry) (design : Lent) (array : LentMut) (marks : Lent) (n : UserUnit) (offset : ℕ) (bytes : Lent)
+    (array₁ : LentMut) →
     write.Post κs (G, (design, (array, (marks, (n, (offset, (bytes, tt))))))) Fine
     (G, (design, (array₁, (marks, (n, (offset, (bytes, tt))))))) →
     Written G design.now array.now array₁.now n offset bytes.now

@@ -7,7 +7,7 @@ use lib.Dec.{eqb}
 use borrow.Author.Tests.{eq-eqb, ne_eqb, eqb-true, eqb-false}
 use Rattle.geometry.specs.declared.Geometry.{Geometry}
 use Rattle.geometry.specs.Geometry.{Sound, user_units_of}
-use Rattle.region.proofs.Turns.{parity_column, parity_diagonal}
+use Rattle.region.proofs.Turns.{parity_column_lem, parity_diagonal}
 use Rattle.numbering.specs.Positions.{parity_position, data_position, data_number}
 use Rattle.numbering.specs.Ranges.{OuterIn, InnerIn, UserIn}
 use Rattle.numbering.specs.Numbering.{user_number, user_column, user_row, user_region, user_tuple}
@@ -22,7 +22,7 @@ use Rattle.cells.specs.Cells.{label_of, diagonal_of}
 use Rattle.cells.specs.Sets.{outer_member, outer_parity, inner_parity}
 use Rattle.cells.specs.Ranges.{CellIn, RoleIn}
 use Rattle.cells.specs.Roles.{user_cell, user, outer, inner, role_of, cell_of}
-use Rattle.cells.proofs.Sets.{outer_member_in, member_label, label_column, label_in, diagonal_column, diagonal_in}
+use Rattle.cells.proofs.Sets.{outer_member_in, member_label, label_column_lem, label_in, diagonal_column_lem, diagonal_in}
 
 -- the cell is in row g-1, or at the parity's position
 abbrev pub LastRow : Geometry → Cell → Type 0
@@ -70,11 +70,11 @@ kind G x = go (eqb x.row (G.g - 1)) refl (eqb x.position (parity_position G x.tu
     go false p false q = at_user (eqb-false _ _ p) (eqb-false _ _ q)
 
 -- the cell of the user unit with given digits
-pub user_cell :
+pub user_cell_lem :
     (G : Geometry) (t m i c : ℕ) → UserIn G t m i c →
     user_cell G (user_number G t m i c) ≡ outer_member G t i c (data_position G t m)
 unfolding user_cell
-user_cell G t m i c h =
+user_cell_lem G t m i c h =
     rw
     (tuple_of_number G t m i c h, region_of_number G t m i c h, row_of_number G t m i c h, column_of_number G t m i c h)
 
@@ -150,13 +150,13 @@ module _ (G : Geometry) (s : Sound G) where
       where
         go : Kind G x → cell_of G (role_of G x) ≡ x
         go (at_inner e) =
-            rw (role_inner G x e, ← parity_column G.g (diagonal_of G x) (diagonal_in G s x h).diagonal, ← e)
-            (rw (diagonal_column G s x h))
-        go (at_outer n e) = rw (role_outer G x n e, ← e, label_column G s x h)
+            rw (role_inner G x e, ← parity_column_lem G.g (diagonal_of G x) (diagonal_in G s x h).diagonal, ← e)
+            (rw (diagonal_column_lem G s x h))
+        go (at_outer n e) = rw (role_outer G x n e, ← e, label_column_lem G s x h)
         go (at_user n m) =
             rw (
               role_user G x n m,
-              user_cell G _ _ _ _ (region_in n m),
+              user_cell_lem G _ _ _ _ (region_in n m),
               position_of_number G x.tuple.0 x.position m,
-              label_column G s x h,
+              label_column_lem G s x h,
             )

@@ -6,7 +6,7 @@ use Rattle.geometry.specs.declared.Geometry.{Geometry}
 use Rattle.geometry.specs.Geometry.{Sound}
 use Rattle.region.specs.Columns.{label_column, diagonal_column}
 use Rattle.region.proofs.Turns.{label_of_column, column_of_label, label_column_lt, label_at_lt}
-use Rattle.region.proofs.Turns.{diagonal_of_column, column_of_diagonal, diagonal_column_lt, diagonal_at_lt, parity_column}
+use Rattle.region.proofs.Turns.{diagonal_of_column, column_of_diagonal, diagonal_column_lt, diagonal_at_lt, parity_column_lem}
 use Rattle.numbering.specs.Ranges.{OuterIn, InnerIn}
 use Rattle.cells.specs.declared.Cell.{Cell}
 use Rattle.cells.specs.Cells.{cell, label_of, diagonal_of}
@@ -37,19 +37,19 @@ module _ (G : Geometry) (s : Sound G) where
 
   -- equation 2: the parity of a diagonal is on it, in row g-1
   pub parity_in : (t l j : ℕ) → j < G.g → InInner G t l j (inner_parity G t l j)
-  parity_in t l j h = (G.g - 1, omega arith, ap (cell t l (G.g - 1)) (sym (parity_column G.g j h)))
+  parity_in t l j h = (G.g - 1, omega arith, ap (cell t l (G.g - 1)) (sym (parity_column_lem G.g j h)))
 
   module _ (x : Cell) (h : CellIn G x) where
     -- a cell has its label
-    pub label_column : label_column G.g x.position x.row (label_of G x) ≡ x.column
-    label_column = column_of_label G.g x.position x.row x.column (omega arith) h.column
+    pub label_column_lem : label_column G.g x.position x.row (label_of G x) ≡ x.column
+    label_column_lem = column_of_label G.g x.position x.row x.column (omega arith) h.column
 
     pub label_in : x.row < G.g - 1 → OuterIn G x.tuple.0 x.row (label_of G x)
     label_in r =
         record { tuple = h.tuple; row = r; column = label_at_lt G.g x.position x.row x.column (omega arith) }
 
     pub has_label : InOuter G x.tuple.0 x.row (label_of G x) x
-    has_label = (x.position, h.position, ap (cell x.tuple.0 x.position x.row) (sym label_column))
+    has_label = (x.position, h.position, ap (cell x.tuple.0 x.position x.row) (sym label_column_lem))
 
     -- and no other
     pub one_outer : x.row < G.g - 1 → OneOuter G x
@@ -68,8 +68,8 @@ module _ (G : Geometry) (s : Sound G) where
         }
 
     -- a cell is on its diagonal
-    pub diagonal_column : diagonal_column G.g (diagonal_of G x) x.row ≡ x.column
-    diagonal_column = column_of_diagonal G.g x.row x.column h.row h.column
+    pub diagonal_column_lem : diagonal_column G.g (diagonal_of G x) x.row ≡ x.column
+    diagonal_column_lem = column_of_diagonal G.g x.row x.column h.row h.column
 
     pub diagonal_in : InnerIn G x.tuple.0 x.position (diagonal_of G x)
     diagonal_in =
@@ -80,7 +80,7 @@ module _ (G : Geometry) (s : Sound G) where
         }
 
     pub on_diagonal : InInner G x.tuple.0 x.position (diagonal_of G x) x
-    on_diagonal = (x.row, h.row, ap (cell x.tuple.0 x.position x.row) (sym diagonal_column))
+    on_diagonal = (x.row, h.row, ap (cell x.tuple.0 x.position x.row) (sym diagonal_column_lem))
 
     -- and on no other
     pub one_inner : OneInner G x

@@ -6,7 +6,7 @@ use Rattle.region.specs.Theorems.{Column}
 use Rattle.region.proofs.Theorems.{the_columns_of_a_diagonal}
 use Rattle.numbering.specs.Positions.{parity_position}
 use Rattle.numbering.specs.Numbering.{user_number}
-use Rattle.numbering.proofs.Positions.{parity_position_lt, data_position}
+use Rattle.numbering.proofs.Positions.{parity_position_lt, data_position_lem}
 use Rattle.cells.specs.declared.Cell.{Cell}
 use Rattle.cells.specs.Sets.{outer_member}
 use Rattle.cells.specs.Roles.{cell_of}
@@ -17,7 +17,7 @@ use Rattle.cells.proofs.Roles as roles
 pub the_cell_of_a_user_unit : Theorems.TheCellOfAUserUnit
 unfolding cell_of user_number label_column
 the_cell_of_a_user_unit G t l i c h =
-    roles.user_cell G t l i c h ∙ ap (outer_member G t i c) (data_position G t l h.region)
+    roles.user_cell_lem G t l i c h ∙ ap (outer_member G t i c) (data_position_lem G t l h.region)
 
 pub the_cell_of_an_outer_parity : Theorems.TheCellOfAnOuterParity
 unfolding cell_of parity_position label_column

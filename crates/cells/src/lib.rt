@@ -1,5 +1,7 @@
 // The cells of a tuple (01, "The two parities"): the members of its sets, their parities and the roles. Nothing here reads a
 // design or names a disk.
+#![tactic(auto)]
+
 ghost use Rattle.std.specs.Prelude.{◌<◌, ◌≡◌};
 ghost use Rattle.geometry.specs.Geometry.{Sound, user_units_of};
 ghost use Rattle.numbering.specs.Ranges.{OuterIn, InnerIn, DigitsIn};
@@ -11,7 +13,7 @@ use geometry::{Geometry, Tuple, UserUnit};
 use numbering::Digits;
 
 // One unit of one region of a tuple: the tuple, the region's position in it, and the unit's row and column there.
-#[derive(Drop)]
+#[derive(Clone, Copy)]
 pub struct Cell {
     pub tuple: Tuple,
     pub position: u32,
@@ -20,7 +22,7 @@ pub struct Cell {
 }
 
 // "The way back answers, for any disk and unit: user unit n; outer parity of (t,i,c); or inner parity of (t,l,j)."
-#[derive(Drop)]
+#[derive(Clone, Copy)]
 pub enum Role {
     User(UserUnit),
     Outer(Tuple, u32, u32),

@@ -21,9 +21,9 @@ use Rattle.checking.proofs.Scan.{Scanned, scanned_found}
 
 -- ---- bad entries
 
-pub entry_bad : (v : ℕ) (table : List ℕ) (a c : ℕ) → a < c → (get_or table (a * v + c) 0 ≡ 1 → ⊥) → entry_bad v table a c ≡ true
+pub entry_bad_lem : (v : ℕ) (table : List ℕ) (a c : ℕ) → a < c → (get_or table (a * v + c) 0 ≡ 1 → ⊥) → entry_bad v table a c ≡ true
 unfolding entry_bad
-entry_bad v table a c h p =
+entry_bad_lem v table a c h p =
     both_and (ltb a c) (not (eqb (get_or table (a * v + c) 0) 1)) (lt-ltb a c h)
     (not_is_true (eqb (get_or table (a * v + c) 0) 1) (ne_eqb (get_or table (a * v + c) 0) 1 p))
 
@@ -45,8 +45,8 @@ scanned_above v table a h =
 
 -- ---- all pairs: lines of v numbers, a·v to a·v+v-1
 
-number_bad : (v : ℕ) (table : List ℕ) (a c : ℕ) → c < v → number_bad v table (a * v + c) ≡ entry_bad v table a c
-number_bad v table a c h = rw (digits_div a h, digits_mod a h)
+number_bad_lem : (v : ℕ) (table : List ℕ) (a c : ℕ) → c < v → number_bad v table (a * v + c) ≡ entry_bad v table a c
+number_bad_lem v table a c h = rw (digits_div a h, digits_mod a h)
 
 -- a scan of all pairs goes on by c numbers of line a
 scanned_line :
@@ -69,7 +69,7 @@ scanned_line v table a c s h q =
         let e : m ≡ a * v + (m - a * v) = omega arith in
         let j : m - a * v < c = omega arith in
         let b : entry_bad v table a (m - a * v) ≡ false = lowest_before (entry_bad v table a) v (m - a * v) (omega arith) in
-        rw e (number_bad v table a (m - a * v) (omega (arith, le)) ∙ b)
+        rw e (number_bad_lem v table a (m - a * v) (omega (arith, le)) ∙ b)
 
 pub scanned_lines :
     (v : ℕ) (table : List ℕ) (a c : ℕ)
@@ -86,7 +86,7 @@ pub line_found :
 line_found v table a c s h e q =
     let bad : entry_bad v table a c ≡ true = rw e (lowest_holds (entry_bad v table a) v (rw e at q)) in
     scanned_found (number_bad v table) (v * v) (a * v + c)
-    (scanned_line v table a c s h (omega arith)) (digits_lt h q) (number_bad v table a c q ∙ bad)
+    (scanned_line v table a c s h (omega arith)) (digits_lt h q) (number_bad_lem v table a c q ∙ bad)
 
 -- ---- the table after all rows
 

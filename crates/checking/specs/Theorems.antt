@@ -1,5 +1,5 @@
--- What is proved of the design check: the statements alone. Those over the call's own contract are `two-results`,
--- `some_result` (proofs/TwoResults.antt) and `check-exact` (proofs/Exact.antt). Assumes nothing.
+-- What is proved of the design check: the statements alone. Those over the call's own contract are `two_results`,
+-- `some_result` (proofs/TwoResults.antt) and `check_exact` (proofs/Exact.antt). Assumes nothing.
 use Rattle.std.specs.Prelude.{ℕ, ◌≡◌, true, List}
 use Rattle.refusal.specs.Refusal.{verdict, accepted}
 use Rattle.refusal.specs.Due.{Exact}

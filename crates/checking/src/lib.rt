@@ -1,4 +1,6 @@
 // The design check: refusals 2 to 5 with their places.
+#![tactic(auto)]
+
 mod pairs;
 mod rows;
 

@@ -21,7 +21,7 @@ use Rattle.cells.specs.declared.Cell.{Cell}
 use Rattle.cells.specs.Cells.{cell, label_of, diagonal_of}
 use Rattle.cells.specs.Ranges.{CellIn}
 use Rattle.region.proofs.Turns.{label_column_lt, diagonal_column_lt, diagonal_once}
-use Rattle.cells.proofs.Sets.{diagonal_in, diagonal_column}
+use Rattle.cells.proofs.Sets.{diagonal_in, diagonal_column_lem}
 use Rattle.layout.specs.Places.{place_of}
 use Rattle.layout.specs.Marks.{lost}
 use Rattle.peeling.specs.Theorems.{SomeRest, Closed}
@@ -65,7 +65,7 @@ module _ (G : Geometry) (d marks : List ℕ) (L : Laid G d) (t : ℕ) (ht : t < 
           let same : x ≡ c = only_one (gone l) G.g x c light (diagonal_column_lt G.g j q g_pos) h.column y e in
           let low : j < G.g = (diagonal_in G L.sound (cell t l i c) h).diagonal in
           absurd (ne (diagonal_once G.g j q i (omega arith) hq h.row
-          (same ∙ sym (diagonal_column G L.sound (cell t l i c) h))))
+          (same ∙ sym (diagonal_column_lem G L.sound (cell t l i c) h))))
 
   module _ (R : ℕ → Type 0) (C : Closed (here_of G d marks t) (sides_of G t) (tuple_cells_of G) R) where
     -- the set holds the cell

@@ -4,7 +4,7 @@ use mathlib.Core.Bool.{Bool}
 use Rattle.counting.proofs.Bools.{not_is_false}
 use Rattle.counting.proofs.Laws.{none_any}
 use Rattle.peeling.specs.Theorems.{Reached}
-use Rattle.peeling.proofs.Theorems.{the-passes-reach-the-least-closed-set}
+use Rattle.peeling.proofs.Theorems.{the_passes_reach_the_least_closed_set}
 use Rattle.reaching.specs.Reach.{tuple_cells_of, sides_of, here_of, steps_of, incomplete}
 use Rattle.reaching.proofs.Numbers.{the_cells_of_a_tuple_are_numbered}
 use Rattle.completing.specs.Theorems.{OneHeavyGroupCompletes}
@@ -22,5 +22,5 @@ one_heavy_group_completes G d marks L t ht one = none_any _ (tuple_cells_of G) (
     reached =
         every_number G d marks L t ht (the_cells_of_a_tuple_are_numbered G d L t ht)
         (Reached start (sides_of G t) (tuple_cells_of G))
-        (the-passes-reach-the-least-closed-set start (sides_of G t) (tuple_cells_of G)).closed (heavy_position G d marks t)
+        (the_passes_reach_the_least_closed_set start (sides_of G t) (tuple_cells_of G)).closed (heavy_position G d marks t)
         (others_light G d marks t one)

@@ -1,1 +1,2 @@
 // Which losses the passes always undo: definitions and theorems only.
+#![tactic(auto)]

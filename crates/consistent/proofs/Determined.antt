@@ -18,7 +18,7 @@ use Rattle.cells.specs.Cells.{cell, label_of, diagonal_of}
 use Rattle.cells.specs.Sets.{outer_member, inner_member}
 use Rattle.cells.specs.Roles.{user_cell, cell_of}
 use Rattle.cells.specs.Ranges.{CellIn, RoleIn}
-use Rattle.cells.proofs.Sets.{outer_member_in, inner_member_in, label_in, label_column, diagonal_in, diagonal_column}
+use Rattle.cells.proofs.Sets.{outer_member_in, inner_member_in, label_in, label_column_lem, diagonal_in, diagonal_column_lem}
 use Rattle.cells.proofs.Roles.{LastRow, AtParity, data_region, role_user}
 use Rattle.cells.proofs.Theorems.{cells_and_roles_are_inverse}
 use Rattle.leaves.specs.Bytes.{sum_at}
@@ -77,7 +77,7 @@ module _ (G : Geometry) (d : List ℕ) (L : Laid G d) (a b : List ℕ) where
         let t : ℕ = x.tuple.0 in
         let c : ℕ = label_of G x in
         let v = label_in G L.sound x h (omega arith) in
-        subst Agree (ap (cell t x.position x.row) (label_column G L.sound x h))
+        subst Agree (ap (cell t x.position x.row) (label_column_lem G L.sound x h))
         (one_agrees (outer_member G t x.row c) G.k x.position h.position
         (λ j low. p.outer t x.row c v j low ∙ sym (q.outer t x.row c v j low))
         (λ m r ne.
@@ -98,7 +98,7 @@ module _ (G : Geometry) (d : List ℕ) (L : Laid G d) (a b : List ℕ) where
         let t : ℕ = x.tuple.0 in
         let j : ℕ = diagonal_of G x in
         let v = diagonal_in G L.sound x h in
-        subst Agree (ap (cell t x.position x.row) (diagonal_column G L.sound x h))
+        subst Agree (ap (cell t x.position x.row) (diagonal_column_lem G L.sound x h))
         (one_agrees (inner_member G t x.position j) G.g x.row h.row
         (λ o low. p.inner t x.position j v o low ∙ sym (q.inner t x.position j v o low))
         (λ m r ne.

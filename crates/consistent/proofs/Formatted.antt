@@ -6,7 +6,7 @@ use mathlib.Core.List.{List, [], ◌∷◌}
 use lib.Bits.{bit_xor, xor_zero_r}
 use lib.ListN.{replicate}
 use contract.Lifetimes.{Lfts}
-use denote.Ref.{Bor}
+use denote.Ref.{Bor, MutBor}
 use Rattle.refusal.specs.declared.Checked.TheVariants.{Fine}
 use Rattle.geometry.specs.declared.Geometry.{Geometry}
 use Rattle.geometry.specs.Geometry.{bytes_of}
@@ -31,7 +31,8 @@ a_formatted_array_is_consistent G d s h =
     (λ (i : ℕ) (l : i < G.u). sum_zeros (bytes_of G) (set_starts G d s) i)
 
 pub format_is_consistent :
-    (κs : Lfts 3) (G : Geometry) (design array marks a m : Bor (List ℕ)) → FormatAllowed κs G design array marks Fine a m →
+    (κs : Lfts 3) (G : Geometry) (design : Bor (List ℕ)) (array marks a m : MutBor (List ℕ)) →
+    FormatAllowed κs G design array marks Fine a m →
     Consistent G design.now a.now
 format_is_consistent κs G design array marks a m p =
     subst (λ (x : List ℕ). Consistent G design.now x) (sym (format_accepted κs G design array marks a m p).0)

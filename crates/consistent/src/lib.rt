@@ -1,1 +1,2 @@
 // What "consistent" means, and what follows from it: definitions and theorems only.
+#![tactic(auto)]

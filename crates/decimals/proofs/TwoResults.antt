@@ -6,18 +6,18 @@ use mathlib.Core.List.{List, ◌++◌}
 use lib.ListN.{length, drop}
 use lib.Seq.{sets}
 use contract.Lifetimes.{Lfts}
-use denote.Ref.{MutBor, at_last}
+use denote.Ref.{Bor, MutBor, at_last}
 use Rattle.decimals.specs.Decimal.{followed, lines_of}
 use Rattle.decimals.proofs.render.Reads as render
 use Rattle.decimals.proofs.put_number.Reads as put-number
 
 -- what the contract allows for a list and lent bytes: the count, and the bytes at return
-abbrev pub Allowed : Lfts 2 → MutBor (List ℕ) → MutBor (List ℕ) → ℕ → MutBor (List ℕ) → Type 0
+abbrev pub Allowed : Lfts 2 → Bor (List ℕ) → MutBor (List ℕ) → ℕ → MutBor (List ℕ) → Type 0
 Allowed κs list out r last = render.Post κs (list, (out, tt)) r (list, (last, tt))
 
 -- two counts for the same list and bytes are the same, and leave the same bytes
 pub two_results :
-    (κs : Lfts 2) (list out d e : MutBor (List ℕ)) (r s : ℕ) →
+    (κs : Lfts 2) (list : Bor (List ℕ)) (out d e : MutBor (List ℕ)) (r s : ℕ) →
     Allowed κs list out r d → Allowed κs list out s e → (r ≡ s) × (d.now ≡ e.now)
 two_results κs list out d e r s p q =
     let same : r ≡ s = p.0 ∙ sym q.0 in
@@ -25,7 +25,7 @@ two_results κs list out d e r s p q =
 
 -- some result is allowed
 pub some_result :
-    (κs : Lfts 2) (list out : MutBor (List ℕ)) → (r : ℕ) × (d : MutBor (List ℕ)) × Allowed κs list out r d
+    (κs : Lfts 2) (list : Bor (List ℕ)) (out : MutBor (List ℕ)) → (r : ℕ) × (d : MutBor (List ℕ)) × Allowed κs list out r d
 some_result κs list out =
     let n = length (lines_of list.now) in
     (n, at_last out (lines_of list.now ++ drop n out.now), (refl, refl))

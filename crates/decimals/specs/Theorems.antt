@@ -1,4 +1,4 @@
--- What is proved of decimals: the statements alone. Those over the call's own contract are `two-results` and `some_result`
+-- What is proved of decimals: the statements alone. Those over the call's own contract are `two_results` and `some_result`
 -- (proofs/TwoResults.antt). Assumes nothing.
 use Rattle.std.specs.Prelude.{ℕ, suc, ◌*◌, ◌^◌, ◌<◌, ◌≤◌, ◌≡◌, List, [], ◌∷◌, length, get_or}
 use Rattle.decimals.specs.Decimal.{Digits, decimal, decimal_of, lines_of}

@@ -1,4 +1,6 @@
 // Triples as lines of decimals, into lent bytes.
+#![tactic(auto)]
+
 ghost use Rattle.std.specs.Prelude.{◌≡◌, ◌++◌, ◌+◌, ◌≤◌, length, drop};
 ghost use Rattle.std.proofs.lemmas.List.Edits.{sets};
 ghost use Rattle.decimals.specs.Decimal.{decimal_of, followed, line_of, lines_of};

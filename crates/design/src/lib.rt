@@ -1,1 +1,2 @@
 // Definitions and laws alone: what a design is.
+#![tactic(auto)]

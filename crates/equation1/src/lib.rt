@@ -1,4 +1,6 @@
 // "Design F is document 000's equation 1 .. with g = 3" (01, "Proved examples"); a unit has one byte.
+#![tactic(auto)]
+
 ghost use Rattle.std.specs.Prelude.{◌≡◌};
 ghost use Rattle.equation1.specs.F.{F, shelf};
 

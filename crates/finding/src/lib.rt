@@ -1,9 +1,11 @@
 // What an audit finds (01): "how many sets don't XOR to zero and the lowest such number, 0 if none": a set more, or sets of
 // lower numbers that were counted apart.
+#![tactic(auto)]
+
 ghost use Rattle.std.specs.Prelude.{◌+◌, ◌≤◌, ◌≡◌};
 ghost use Rattle.finding.specs.Steps.{with_set, after};
 
-#[derive(Drop)]
+#[derive(Clone, Copy)]
 pub struct Found {
     pub bad: u32,
     pub lowest: u32,

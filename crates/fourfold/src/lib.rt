@@ -1,4 +1,6 @@
 // What a write does (01): the difference of new and old bytes of a range, into one data and three parity units.
+#![tactic(auto)]
+
 ghost use Rattle.std.specs.Prelude.{◌+◌, ◌≤◌, ◌<◌, ◌≡◌, ◌∷◌, length};
 ghost use Rattle.geometry.specs.Geometry.{Sound, bytes_of};
 ghost use Rattle.leaves.specs.Bytes.{add_all, written, FourInside, Four as FourRuns};

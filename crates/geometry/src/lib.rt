@@ -1,28 +1,30 @@
 // The numbers of document 000, each a type of its own, and the geometry with its limits and derived sizes.
+#![tactic(auto)]
+
 ghost use Rattle.std.specs.Prelude.{◌≡◌};
 ghost use Rattle.geometry.specs.Geometry.{Limits, Sound, beyond_limits, r_of, b_of, whole, no_divisor_below, sizes_allowed, disks_of, parts_of, units_of, tuples_of, user_units_of, tuple_sets_of, sets_of, bytes_of};
 
 // 01: "a disk number never stands where a unit number is meant".
-#[derive(Drop)]
+#[derive(Clone, Copy)]
 pub struct Disk(pub u32);
 
-#[derive(Drop)]
+#[derive(Clone, Copy)]
 pub struct Group(pub u32);
 
-#[derive(Drop)]
+#[derive(Clone, Copy)]
 pub struct Tuple(pub u32);
 
-#[derive(Drop)]
+#[derive(Clone, Copy)]
 pub struct Part(pub u32);
 
-#[derive(Drop)]
+#[derive(Clone, Copy)]
 pub struct Unit(pub u32);
 
-#[derive(Drop)]
+#[derive(Clone, Copy)]
 pub struct UserUnit(pub u32);
 
 // v groups, k of them in a tuple, g disks in a group, u bytes in a unit.
-#[derive(Drop)]
+#[derive(Clone, Copy)]
 pub struct Geometry {
     pub v: u32,
     pub k: u32,

@@ -183,11 +183,11 @@ module _ (v : ℕ) (s : List ℕ) (S : DifferenceSet v s) where
         pairs = λ a c h hc. pair_row a c h hc (the_pair (c - a) (omega arith) (omega arith));
       }
 
-pub held_design : (v : ℕ) → (length (set_for v) ≡ 0 → ⊥) → Design v (length (set_for v)) (b_of v (length (set_for v))) (held_design v)
+pub held_design_lem : (v : ℕ) → (length (set_for v) ≡ 0 → ⊥) → Design v (length (set_for v)) (b_of v (length (set_for v))) (held_design v)
 unfolding held_design
-held_design v n = let S = held_difference v n in rw S.rows (developed_design v (set_for v) S)
+held_design_lem v n = let S = held_difference v n in rw S.rows (developed_design v (set_for v) S)
 
 pub held_accepted : HeldDesignsAreAccepted
 held_accepted v n =
     let S = held_difference v n in
-    design_accepted v (length (set_for v)) (held_design v) S.developable.limits S.whole_sizes (held_design v n)
+    design_accepted v (length (set_for v)) (held_design v) S.developable.limits S.whole_sizes (held_design_lem v n)

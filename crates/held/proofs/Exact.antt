@@ -3,7 +3,7 @@ use Prim.Native.Nat.{ℕ}
 use mathlib.Core.List.{List}
 use lib.ListN.{length}
 use contract.Lifetimes.{Lfts}
-use denote.Ref.{Bor}
+use denote.Ref.{MutBor}
 use Rattle.refusal.specs.declared.Checked.{Checked}
 use Rattle.refusal.specs.Refusal.{checked_outcome}
 use Rattle.refusal.specs.Due.{Exact}
@@ -17,6 +17,6 @@ refusals_are_exact v n = fill_exact v n tt
 
 -- whatever the contract allows refuses by 1 or 3 exactly where that is due, and accepts exactly where neither is
 pub fill_is_exact :
-    (κs : Lfts 1) (v : ℕ) (design last : Bor (List ℕ)) (r : Checked) → Allowed κs v design r last →
+    (κs : Lfts 1) (v : ℕ) (design last : MutBor (List ℕ)) (r : Checked) → Allowed κs v design r last →
     Exact (fill_rows v (length design.now)) (checked_outcome r)
 fill_is_exact κs v design last r p = rw p.0 (refusals_are_exact v (length design.now))

@@ -1,4 +1,6 @@
 // The held difference sets (01), and the call that fills a lent list with the design of a held v.
+#![tactic(auto)]
+
 ghost use Rattle.std.specs.Prelude.{◌≡◌, ◌*◌, ◌<◌, length, take};
 ghost use Rattle.counting.specs.Lists.{list_of};
 ghost use Rattle.refusal.specs.Refusal.{verdict, kept, checked_outcome};
@@ -8,7 +10,7 @@ ghost use Rattle.held.specs.Developed.{Developable, first_past, developed};
 use refusal::{Checked, Refusal};
 
 // A row of the table: a v and its set, the first `length` of ten members.
-#[derive(Drop)]
+#[derive(Clone, Copy)]
 struct Padded {
     v: u32,
     length: usize,

@@ -109,7 +109,7 @@ module _ (G : Geometry) (d : List ℕ) where
           lifetimes = p.lifetimes;
           design = p.design;
           array = at_last p.array w.end.array;
-          marks = at_last p.marks w.end.marks;
+          marks = record p.marks { now = w.end.marks };
           new = p.new;
           array_after = at_last p.array new;
           is_design = p.is_design;

@@ -8,12 +8,12 @@ use Rattle.cells.proofs.Roles.{user_cell_in}
 use Rattle.leaves.proofs.Runs.{bytes_run, same_bytes}
 use Rattle.array.specs.Array.{cell_start}
 use Rattle.array.proofs.Theorems.{each_unit_lies_in_the_array}
-use Rattle.consistent.proofs.Theorems.{a-consistent-array-is-determined-by-its-user-bytes}
+use Rattle.consistent.proofs.Theorems.{a_consistent_array_is_determined_by_its_user_bytes}
 use Rattle.histories.specs.Theorems.{TheIdealIsOne}
 
 pub the_ideal_is_one : TheIdealIsOne
 the_ideal_is_one G d L es a b p q =
-    a-consistent-array-is-determined-by-its-user-bytes G d L a b p.long q.long p.consistent q.consistent
+    a_consistent_array_is_determined_by_its_user_bytes G d L a b p.long q.long p.consistent q.consistent
     (λ (m : ℕ) (low : m < user_units_of G).
     let inside : cell_start G d (user_cell G m) + G.u ≤ bytes_of G =
     each_unit_lies_in_the_array G d L (user_cell G m) (user_cell_in G L.sound m low) in

@@ -17,7 +17,7 @@ use Rattle.array.specs.Array.{formatted_array, formatted_marks}
 use Rattle.array.specs.Rules.{array_rules}
 use Rattle.array.proofs.Fits.{ready}
 use Rattle.array.proofs.Exact.{format_accepted}
-use Rattle.consistent.proofs.Theorems.{a-formatted-array-is-consistent}
+use Rattle.consistent.proofs.Theorems.{a_formatted_array_is_consistent}
 use Rattle.histories.specs.Histories.{State, Event, formatted, FormatStep, marked_disks}
 use Rattle.histories.specs.Ideal.{Ideal}
 use Rattle.histories.specs.Theorems.{Keeps}
@@ -35,7 +35,7 @@ module _ (G : Geometry) (d : List ℕ) where
   zeros_ideal es =
       record {
         long = length-replicate (bytes_of G) 0;
-        consistent = a-formatted-array-is-consistent G d;
+        consistent = a_formatted_array_is_consistent G d;
         user = λ m low j l. at_zeros (bytes_of G) _;
       }
 

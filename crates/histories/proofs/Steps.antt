@@ -8,7 +8,7 @@ use lib.Dec.{eqb, leb}
 use lib.ListN.{get_or, length}
 use borrow.Author.Tests.{eqb-true, leb-true, not-false}
 use contract.Lifetimes.{Lfts}
-use denote.Ref.{Bor}
+use denote.Ref.{Bor, MutBor}
 use Rattle.counting.specs.Counting.{any_below}
 use Rattle.counting.proofs.Bools.{or_one}
 use Rattle.counting.proofs.Laws.{any_none}
@@ -34,20 +34,23 @@ use Rattle.rebuilding.proofs.rebuild.Reads as rebuild
 abbrev ref : List ℕ → Bor (List ℕ)
 ref xs = record { ref_ptr = (0, 0); now = xs }
 
+abbrev mut_ref : List ℕ → MutBor (List ℕ)
+mut_ref xs = record { ref_ptr = (0, 0); ghost_name = 0; now = xs }
+
 module _ (G : Geometry) (d : List ℕ) (s t : State) where
   both_step :
       {R : Type 0} (Post : Lfts 3 → Handed → R → Handed → Type 0) (r : R)
-      → Post ([], ([], ([], tt))) (G, (ref d, (ref s.array, (ref s.marks, tt)))) r
-      (G, (ref d, (ref t.array, (ref t.marks, tt))))
+      → Post ([], ([], ([], tt))) (G, (ref d, (mut_ref s.array, (mut_ref s.marks, tt)))) r
+      (G, (ref d, (mut_ref t.array, (mut_ref t.marks, tt))))
       → BothStep Post G d s r t
   both_step Post r h =
       record {
         lifetimes = ([], ([], ([], tt)));
         design = ref d;
-        array = ref s.array;
-        marks = ref s.marks;
-        array_after = ref t.array;
-        marks_after = ref t.marks;
+        array = mut_ref s.array;
+        marks = mut_ref s.marks;
+        array_after = mut_ref t.array;
+        marks_after = mut_ref t.marks;
         is_design = refl;
         is_array = refl;
         are_marks = refl;
@@ -75,10 +78,10 @@ module _ (G : Geometry) (d : List ℕ) (s t : State) where
         record {
           lifetimes = ([], ([], ([], ([], tt))));
           design = ref d;
-          array = ref s.array;
+          array = mut_ref s.array;
           marks = ref s.marks;
           new = ref bytes;
-          array_after = ref t.array;
+          array_after = mut_ref t.array;
           is_design = refl;
           is_array = refl;
           are_marks = refl;
@@ -100,8 +103,8 @@ module _ (G : Geometry) (d : List ℕ) (s t : State) where
           design = ref d;
           array = ref s.array;
           marks = ref s.marks;
-          out = ref out;
-          out_after = ref bytes;
+          out = mut_ref out;
+          out_after = mut_ref bytes;
           is_design = refl;
           is_array = refl;
           are_marks = refl;

@@ -2,7 +2,7 @@
 -- lost at a time, each marked before the next call and unmarked only by rebuild or format." Assumes nothing.
 use Rattle.std.specs.Prelude.{ℕ, ◌*◌, ◌/◌, ◌≤◌, ◌<◌, ◌≡◌, Bool, true, false, ◌⊎◌, List, [], ◌∷◌, eqb, get_or, length}
 use contract.Lifetimes.{Lfts}
-use Rattle.std.specs.Borrow.{Bor}
+use Rattle.std.specs.Borrow.{Bor, MutBor}
 use Rattle.counting.specs.Counting.{count_below}
 use Rattle.refusal.specs.declared.Checked.{Checked}
 use Rattle.refusal.specs.declared.Checked.TheVariants.{Fine, Refused}
@@ -55,17 +55,17 @@ pub record Loss (G : Geometry) (s t : State) : Type 0 where
 -- the calls, each by its own contract between references that hold the state before and after; format and rebuild are lent a
 -- design, the array and the marks, and may change the last two
 abbrev pub Handed : Type 0
-Handed = Geometry × (Bor (List ℕ) × (Bor (List ℕ) × (Bor (List ℕ) × Unit {0})))
+Handed = Geometry × (Bor (List ℕ) × (MutBor (List ℕ) × (MutBor (List ℕ) × Unit {0})))
 
 pub record BothStep
     {R : Type 0} (Post : Lfts 3 → Handed → R → Handed → Type 0) (G : Geometry) (d : List ℕ) (s : State) (r : R) (t : State) : Type 0
   where
     pub lifetimes : Lfts 3
     pub design : Bor (List ℕ)
-    pub array : Bor (List ℕ)
-    pub marks : Bor (List ℕ)
-    pub array_after : Bor (List ℕ)
-    pub marks_after : Bor (List ℕ)
+    pub array : MutBor (List ℕ)
+    pub marks : MutBor (List ℕ)
+    pub array_after : MutBor (List ℕ)
+    pub marks_after : MutBor (List ℕ)
     pub is_design : design.now ≡ d
     pub is_array : array.now ≡ s.array
     pub are_marks : marks.now ≡ s.marks
@@ -84,8 +84,8 @@ pub record ReadStep (G : Geometry) (d : List ℕ) (s : State) (n : UserUnit) (of
   pub design : Bor (List ℕ)
   pub array : Bor (List ℕ)
   pub marks : Bor (List ℕ)
-  pub out : Bor (List ℕ)
-  pub out_after : Bor (List ℕ)
+  pub out : MutBor (List ℕ)
+  pub out_after : MutBor (List ℕ)
   pub is_design : design.now ≡ d
   pub is_array : array.now ≡ s.array
   pub are_marks : marks.now ≡ s.marks
@@ -98,10 +98,10 @@ pub record ReadStep (G : Geometry) (d : List ℕ) (s : State) (n : UserUnit) (of
 pub record WriteStep (G : Geometry) (d : List ℕ) (s : State) (n : UserUnit) (offset : ℕ) (bytes : List ℕ) (r : Checked) (t : State) : Type 0 where
   pub lifetimes : Lfts 4
   pub design : Bor (List ℕ)
-  pub array : Bor (List ℕ)
+  pub array : MutBor (List ℕ)
   pub marks : Bor (List ℕ)
   pub new : Bor (List ℕ)
-  pub array_after : Bor (List ℕ)
+  pub array_after : MutBor (List ℕ)
   pub is_design : design.now ≡ d
   pub is_array : array.now ≡ s.array
   pub are_marks : marks.now ≡ s.marks

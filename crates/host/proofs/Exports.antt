@@ -6,7 +6,7 @@ use mathlib.Core.List.{List}
 use lib.Dec.{lit<}
 use lib.ListN.{length}
 use contract.Lifetimes.{Lfts}
-use denote.Ref.{Bor}
+use denote.Ref.{Bor, MutBor}
 use Rattle.refusal.specs.Refusal.{answer, verdict}
 use Rattle.checking.specs.Rules.{design_rules}
 use Rattle.checking.specs.Reasons.{design_rows}
@@ -62,7 +62,7 @@ use Rattle.host.proofs.himzolven_plan.Reads as plan
 use Rattle.host.proofs.himzolven_rebuild.Reads as rebuild
 
 -- what each contract allows
-abbrev pub FillAllowed : Lfts 1 → ℕ → Bor (List ℕ) → Answer → Bor (List ℕ) → Type 0
+abbrev pub FillAllowed : Lfts 1 → ℕ → MutBor (List ℕ) → Answer → MutBor (List ℕ) → Type 0
 FillAllowed κs v design r last = fill.Post κs (v, (design, tt)) r (v, (last, tt))
 
 abbrev pub CheckAllowed : Lfts 1 → (v k : ℕ) → Bor (List ℕ) → Answer → Type 0
@@ -81,20 +81,20 @@ RoleAllowed κs v k g u design disk unit r =
     role.Post κs (v, (k, (g, (u, (design, (disk, (unit, tt))))))) r (v, (k, (g, (u, (design, (disk, (unit, tt)))))))
 
 abbrev pub FormatAllowed :
-    Lfts 3 → (v k g u : ℕ) → (design array marks : Bor (List ℕ)) → Answer → (a m : Bor (List ℕ)) → Type 0
+    Lfts 3 → (v k g u : ℕ) → (design : Bor (List ℕ)) (array marks : MutBor (List ℕ)) → Answer → (a m : MutBor (List ℕ)) → Type 0
 FormatAllowed κs v k g u design array marks r a m =
     format.Post κs (v, (k, (g, (u, (design, (array, (marks, tt))))))) r (v, (k, (g, (u, (design, (a, (m, tt)))))))
 
 abbrev pub ReadAllowed :
-    Lfts 4 → (v k g u : ℕ) → (design array marks : Bor (List ℕ)) → (n offset : ℕ) → Bor (List ℕ) → Answer → Bor (List ℕ) →
+    Lfts 4 → (v k g u : ℕ) → (design array marks : Bor (List ℕ)) → (n offset : ℕ) → MutBor (List ℕ) → Answer → MutBor (List ℕ) →
     Type 0
 ReadAllowed κs v k g u design array marks n offset bytes r last =
     read.Post κs (v, (k, (g, (u, (design, (array, (marks, (n, (offset, (bytes, tt)))))))))) r
     (v, (k, (g, (u, (design, (array, (marks, (n, (offset, (last, tt))))))))))
 
 abbrev pub WriteAllowed :
-    Lfts 4 → (v k g u : ℕ) → (design array marks : Bor (List ℕ)) → (n offset : ℕ) → Bor (List ℕ) → Answer → Bor (List ℕ) →
-    Type 0
+    Lfts 4 → (v k g u : ℕ) → (design : Bor (List ℕ)) (array : MutBor (List ℕ)) (marks : Bor (List ℕ)) → (n offset : ℕ) →
+    Bor (List ℕ) → Answer → MutBor (List ℕ) → Type 0
 WriteAllowed κs v k g u design array marks n offset bytes r last =
     write.Post κs (v, (k, (g, (u, (design, (array, (marks, (n, (offset, (bytes, tt)))))))))) r
     (v, (k, (g, (u, (design, (last, (marks, (n, (offset, (bytes, tt))))))))))
@@ -104,19 +104,19 @@ AuditAllowed κs v k g u design array r =
     audit.Post κs (v, (k, (g, (u, (design, (array, tt)))))) r (v, (k, (g, (u, (design, (array, tt))))))
 
 abbrev pub PlanAllowed :
-    Lfts 2 → (v k g u : ℕ) → Bor (List ℕ) → (disk : ℕ) → Bor (List ℕ) → CountAnswer → Bor (List ℕ) → Type 0
+    Lfts 2 → (v k g u : ℕ) → Bor (List ℕ) → (disk : ℕ) → MutBor (List ℕ) → CountAnswer → MutBor (List ℕ) → Type 0
 PlanAllowed κs v k g u design disk list r last =
     plan.Post κs (v, (k, (g, (u, (design, (disk, (list, tt))))))) r (v, (k, (g, (u, (design, (disk, (last, tt)))))))
 
 abbrev pub RebuildAllowed :
-    Lfts 3 → (v k g u : ℕ) → (design array marks : Bor (List ℕ)) → CountAnswer → (array₁ marks₁ : Bor (List ℕ)) → Type 0
+    Lfts 3 → (v k g u : ℕ) → (design : Bor (List ℕ)) (array marks : MutBor (List ℕ)) → CountAnswer → (array₁ marks₁ : MutBor (List ℕ)) → Type 0
 RebuildAllowed κs v k g u design array marks r array₁ marks₁ =
     rebuild.Post κs (v, (k, (g, (u, (design, (array, (marks, tt))))))) r (v, (k, (g, (u, (design, (array₁, (marks₁, tt)))))))
 
 -- what C is told
 
 pub fill_told :
-    (κs : Lfts 1) (v : ℕ) (design last : Bor (List ℕ)) (r : Answer) → FillAllowed κs v design r last →
+    (κs : Lfts 1) (v : ℕ) (design last : MutBor (List ℕ)) (r : Answer) → FillAllowed κs v design r last →
     Told (fill_rows v (length design.now)) r.refusal r.place
 fill_told κs v design last r p =
     front_tells (fill_rows v (length design.now)) (verdict (fill_rules v (length design.now))) r.refusal r.place (lit< tt, (lit< tt, tt)) (fill_exact v (length design.now) tt)
@@ -152,7 +152,7 @@ role_told κs v k g u design disk unit r p =
     (front_role (answer (role_rules (geometry v k g u) design.now disk unit) (role_at (geometry v k g u) design.now disk unit)) r p)
 
 pub format_told :
-    (κs : Lfts 3) (v k g u : ℕ) (design array marks a m : Bor (List ℕ)) (r : Answer) →
+    (κs : Lfts 3) (v k g u : ℕ) (design : Bor (List ℕ)) (array marks a m : MutBor (List ℕ)) (r : Answer) →
     FormatAllowed κs v k g u design array marks r a m →
     Told (array_rows (geometry v k g u) design.now (length array.now) marks.now) r.refusal r.place
 format_told κs v k g u design array marks a m r p =
@@ -161,7 +161,7 @@ format_told κs v k g u design array marks a m r p =
     (front_answer (verdict (array_rules (geometry v k g u) design.now (length array.now) marks.now)) r p.0)
 
 pub read_told :
-    (κs : Lfts 4) (v k g u : ℕ) (design array marks : Bor (List ℕ)) (n offset : ℕ) (bytes last : Bor (List ℕ)) (r : Answer) →
+    (κs : Lfts 4) (v k g u : ℕ) (design array marks : Bor (List ℕ)) (n offset : ℕ) (bytes last : MutBor (List ℕ)) (r : Answer) →
     ReadAllowed κs v k g u design array marks n offset bytes r last →
     Told (read_rows (geometry v k g u) design.now (length array.now) marks.now n offset (length bytes.now)) r.refusal r.place
 read_told κs v k g u design array marks n offset bytes last r p =
@@ -171,7 +171,8 @@ read_told κs v k g u design array marks n offset bytes last r p =
     (front_answer (verdict rules) r p.0)
 
 pub write_told :
-    (κs : Lfts 4) (v k g u : ℕ) (design array marks : Bor (List ℕ)) (n offset : ℕ) (bytes last : Bor (List ℕ)) (r : Answer) →
+    (κs : Lfts 4) (v k g u : ℕ) (design : Bor (List ℕ)) (array : MutBor (List ℕ)) (marks : Bor (List ℕ)) (n offset : ℕ)
+    (bytes : Bor (List ℕ)) (last : MutBor (List ℕ)) (r : Answer) →
     WriteAllowed κs v k g u design array marks n offset bytes r last →
     Told (write_rows (geometry v k g u) design.now (length array.now) marks.now n offset (length bytes.now)) r.refusal r.place
 write_told κs v k g u design array marks n offset bytes last r p =
@@ -191,7 +192,7 @@ audit_told κs v k g u design array r p =
     (front_audit answered r p)
 
 pub plan_told :
-    (κs : Lfts 2) (v k g u : ℕ) (design : Bor (List ℕ)) (disk : ℕ) (list last : Bor (List ℕ)) (r : CountAnswer) →
+    (κs : Lfts 2) (v k g u : ℕ) (design : Bor (List ℕ)) (disk : ℕ) (list last : MutBor (List ℕ)) (r : CountAnswer) →
     PlanAllowed κs v k g u design disk list r last →
     Told (plan_rows (geometry v k g u) design.now disk (length list.now)) r.refusal r.place
 plan_told κs v k g u design disk list last r p =
@@ -202,7 +203,7 @@ plan_told κs v k g u design disk list last r p =
     (front_count answered r p.0)
 
 pub rebuild_told :
-    (κs : Lfts 3) (v k g u : ℕ) (design array marks array₁ marks₁ : Bor (List ℕ)) (r : CountAnswer) →
+    (κs : Lfts 3) (v k g u : ℕ) (design : Bor (List ℕ)) (array marks array₁ marks₁ : MutBor (List ℕ)) (r : CountAnswer) →
     RebuildAllowed κs v k g u design array marks r array₁ marks₁ →
     Told (rebuild_rows (geometry v k g u) design.now (length array.now) marks.now) r.refusal r.place
 rebuild_told κs v k g u design array marks array₁ marks₁ r p =
@@ -215,7 +216,7 @@ rebuild_told κs v k g u design array marks array₁ marks₁ r p =
 -- two answers are one
 
 pub fill_two_results :
-    (κs : Lfts 1) (v : ℕ) (design d e : Bor (List ℕ)) (r s : Answer) →
+    (κs : Lfts 1) (v : ℕ) (design d e : MutBor (List ℕ)) (r s : Answer) →
     FillAllowed κs v design r d → FillAllowed κs v design s e → (r ≡ s) × (d.now ≡ e.now)
 fill_two_results κs v design d e r s p q = (p.0 ∙ sym q.0, p.1 ∙ sym q.1)
 
@@ -240,19 +241,20 @@ pub role_two_results :
 role_two_results κs v k g u design disk unit r s p q = p ∙ sym q
 
 pub format_two_results :
-    (κs : Lfts 3) (v k g u : ℕ) (design array marks a b m w : Bor (List ℕ)) (r s : Answer) →
+    (κs : Lfts 3) (v k g u : ℕ) (design : Bor (List ℕ)) (array marks a b m w : MutBor (List ℕ)) (r s : Answer) →
     FormatAllowed κs v k g u design array marks r a m → FormatAllowed κs v k g u design array marks s b w →
     (r ≡ s) × (a.now ≡ b.now) × (m.now ≡ w.now)
 format_two_results κs v k g u design array marks a b m w r s p q = (p.0 ∙ sym q.0, p.1 ∙ sym q.1, p.2 ∙ sym q.2)
 
 pub read_two_results :
-    (κs : Lfts 4) (v k g u : ℕ) (design array marks : Bor (List ℕ)) (n offset : ℕ) (bytes x y : Bor (List ℕ)) (r s : Answer) →
+    (κs : Lfts 4) (v k g u : ℕ) (design array marks : Bor (List ℕ)) (n offset : ℕ) (bytes x y : MutBor (List ℕ)) (r s : Answer) →
     ReadAllowed κs v k g u design array marks n offset bytes r x → ReadAllowed κs v k g u design array marks n offset bytes s y →
     (r ≡ s) × (x.now ≡ y.now)
 read_two_results κs v k g u design array marks n offset bytes x y r s p q = (p.0 ∙ sym q.0, p.1 ∙ sym q.1)
 
 pub write_two_results :
-    (κs : Lfts 4) (v k g u : ℕ) (design array marks : Bor (List ℕ)) (n offset : ℕ) (bytes x y : Bor (List ℕ)) (r s : Answer) →
+    (κs : Lfts 4) (v k g u : ℕ) (design : Bor (List ℕ)) (array : MutBor (List ℕ)) (marks : Bor (List ℕ)) (n offset : ℕ)
+    (bytes : Bor (List ℕ)) (x y : MutBor (List ℕ)) (r s : Answer) →
     WriteAllowed κs v k g u design array marks n offset bytes r x → WriteAllowed κs v k g u design array marks n offset bytes s y →
     (r ≡ s) × (x.now ≡ y.now)
 write_two_results κs v k g u design array marks n offset bytes x y r s p q = (p.0 ∙ sym q.0, p.1 ∙ sym q.1)
@@ -263,12 +265,12 @@ pub audit_two_results :
 audit_two_results κs v k g u design array r s p q = p ∙ sym q
 
 pub plan_two_results :
-    (κs : Lfts 2) (v k g u : ℕ) (design : Bor (List ℕ)) (disk : ℕ) (list x y : Bor (List ℕ)) (r s : CountAnswer) →
+    (κs : Lfts 2) (v k g u : ℕ) (design : Bor (List ℕ)) (disk : ℕ) (list x y : MutBor (List ℕ)) (r s : CountAnswer) →
     PlanAllowed κs v k g u design disk list r x → PlanAllowed κs v k g u design disk list s y → (r ≡ s) × (x.now ≡ y.now)
 plan_two_results κs v k g u design disk list x y r s p q = (p.0 ∙ sym q.0, p.1 ∙ sym q.1)
 
 pub rebuild_two_results :
-    (κs : Lfts 3) (v k g u : ℕ) (design array marks x y m n : Bor (List ℕ)) (r s : CountAnswer) →
+    (κs : Lfts 3) (v k g u : ℕ) (design : Bor (List ℕ)) (array marks x y m n : MutBor (List ℕ)) (r s : CountAnswer) →
     RebuildAllowed κs v k g u design array marks r x m → RebuildAllowed κs v k g u design array marks s y n →
     (r ≡ s) × (x.now ≡ y.now) × (m.now ≡ n.now)
 rebuild_two_results κs v k g u design array marks x y m n r s p q =

@@ -2,7 +2,7 @@
 use Prim.Native.Nat.{ℕ, ◌<◌}
 use mathlib.Core.Path.{◌≡◌, refl, ap, ◌∙◌}
 use mathlib.Core.Logic.{inl, inr}
-use mathlib.Core.List.{List, ◌∷◌}
+use mathlib.Core.List.{List, [], ◌∷◌}
 use native.Mathlib.Omega.{arith}
 use Rattle.refusal.specs.Refusal.{Outcome, refused, accepted}
 use Rattle.refusal.specs.Due.{Row, Due, Exact}
@@ -30,6 +30,7 @@ place_of (refused n p) = p
 place_of (accepted a) = 0
 
 due_numbered : (rows : List Row) (n p : ℕ) → Numbered rows → Due rows n p → 0 < n
+due_numbered [] n p N h = elim h [ ]
 due_numbered (x ∷ xs) n p N (inl h) = let e : n ≡ x.number = h.0 in let l : 0 < x.number = N.0 in omega arith
 due_numbered (x ∷ xs) n p N (inr h) = due_numbered xs n p N.1 h.1
 

@@ -1,5 +1,7 @@
 // Where the cells of a design's tuples lie on the disks, and which cell lies at a place. The map looks up each of its two
 // regions once.
+#![tactic(auto)]
+
 pub mod scan; // scan.rt: a group's entries in the design
 
 ghost use Rattle.std.specs.Prelude.{◌+◌, ◌*◌, ◌≤◌, ◌<◌, ◌≡◌};
@@ -14,28 +16,28 @@ use cells::{Cell, Role};
 use geometry::{Disk, Geometry, Group, Part, Tuple, Unit, UserUnit};
 
 // Where a unit lies: "disk/unit" (01).
-#[derive(Drop)]
+#[derive(Clone, Copy)]
 pub struct Place {
     pub disk: Disk,
     pub unit: Unit,
 }
 
 // "Let a region be one part of all g disks of a group"
-#[derive(Drop)]
+#[derive(Clone, Copy)]
 pub struct Region {
     pub group: Group,
     pub part: Part,
 }
 
 // The places of a cell and of its diagonal's parity.
-#[derive(Drop)]
+#[derive(Clone, Copy)]
 pub struct Pair {
     pub own: Place,
     pub inner: Place,
 }
 
 // "Places are disk/unit: data, outer parity, inner of data, inner of outer" (01).
-#[derive(Drop)]
+#[derive(Clone, Copy)]
 pub struct Four {
     pub user: Place,
     pub outer: Place,

@@ -1,5 +1,7 @@
 // Bytes in one lent list: XOR, copy and zero test. A run is lent as a part that starts at its offset, so each leaf sees plain
 // slices. Every loop is one that a compiler turns into vector instructions: no early exit inside it.
+#![tactic(auto)]
+
 ghost use Rattle.std.specs.Prelude.{◌≡◌, ◌≤◌, length, replicate};
 ghost use Rattle.leaves.specs.Bytes.{xors, all_zero};
 

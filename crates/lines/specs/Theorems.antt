@@ -1,4 +1,4 @@
--- What is proved of the line: the statements alone. Those over the call's own contract are `two-results` and `some_result`
+-- What is proved of the line: the statements alone. Those over the call's own contract are `two_results` and `some_result`
 -- (proofs/TwoResults.antt). Assumes nothing.
 use Rattle.std.specs.Prelude.{ℕ, ◌≤◌, ◌≡◌, ◌⊎◌, List, [], ◌∷◌, ◌++◌, length}
 use Rattle.decimals.specs.Decimal.{Digits, decimal, space, line_end}

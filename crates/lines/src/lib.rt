@@ -1,9 +1,11 @@
 // The line that the plan printer reads.
+#![tactic(auto)]
+
 ghost use Rattle.std.specs.Prelude.{◌≡◌, ◌≤◌, length, drop};
 ghost use Rattle.lines.specs.Line.{front, most, starts_digit, spaced, ended, field, number_of, parsed};
 
 // "v, g and disk" (01).
-#[derive(Drop)]
+#[derive(Clone, Copy)]
 pub struct Question {
     pub v: u32,
     pub g: u32,
@@ -11,14 +13,14 @@ pub struct Question {
 }
 
 // What a line asks, or that it is "a line of another form".
-#[derive(Drop)]
+#[derive(Clone, Copy)]
 pub enum Parsed {
     Asked(Question),
     Unread,
 }
 
 // Digits in the line: how many they are, and their number. No digits: none of the form were found.
-#[derive(Drop)]
+#[derive(Clone, Copy)]
 struct Number {
     value: u32,
     digits: usize,

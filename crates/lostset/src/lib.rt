@@ -1,11 +1,13 @@
 // The set of lost disks (01, rebuild): "a value that hands back a new one when a disk is added or taken out".
+#![tactic(auto)]
+
 ghost use Rattle.std.specs.Prelude.{◌≡◌, set};
 ghost use Rattle.lostset.specs.Lost.{has, none_marked, marked, cleared, flags_of};
 
 use geometry::Disk;
 
 // One flag a disk, for the most disks that an array can have: 91 groups of 13.
-#[derive(Drop)]
+#[derive(Clone, Copy)]
 pub struct LostSet {
     pub flags: [bool; 1183],
 }

@@ -79,6 +79,6 @@ unfolding data_number
 data_number_lt G t l p h n = (filled (parity_position G t) l n).low G.k (parity_position_lt G t p) h
 
 -- with the parity at position k-1 the m-th data region stands at position m
-pub data_position : (G : Geometry) (t m : ℕ) → m < G.k - 1 → data_position G t m ≡ m
+pub data_position_lem : (G : Geometry) (t m : ℕ) → m < G.k - 1 → data_position G t m ≡ m
 unfolding data_position parity_position
-data_position G t m h = rw (lt-ltb m (G.k - 1) h)
+data_position_lem G t m h = rw (lt-ltb m (G.k - 1) h)

@@ -2,7 +2,7 @@
 use mathlib.Core.Path.{◌∙◌, ap, refl, sym}
 use Rattle.numbering.specs.Positions.{parity_position, data_number}
 use Rattle.numbering.specs.Theorems
-use Rattle.numbering.proofs.Positions.{data_position, number_of_position}
+use Rattle.numbering.proofs.Positions.{data_position_lem, number_of_position}
 use Rattle.numbering.proofs.Numbering as numbering
 use Rattle.numbering.proofs.SetNumbers as numbers
 
@@ -11,8 +11,8 @@ unfolding parity_position
 the_last_region_is_the_parity G t =
     record {
       parity = refl;
-      position = data_position G t;
-      number = λ l h. sym (ap (data_number G t) (data_position G t l h)) ∙ number_of_position G t l;
+      position = data_position_lem G t;
+      number = λ l h. sym (ap (data_number G t) (data_position_lem G t l h)) ∙ number_of_position G t l;
     }
 
 pub user_units_are_numbered : Theorems.UserUnitsAreNumbered

@@ -1,5 +1,7 @@
 // 01's numbers of the user units: the position of each data region of a tuple, and a number's digits. Nothing here knows where a
 // label stands.
+#![tactic(auto)]
+
 ghost use Rattle.std.specs.Prelude.{◌+◌, ◌-◌, ◌*◌, ◌≤◌, ◌<◌, ◌≡◌};
 ghost use Rattle.geometry.specs.Geometry.{Sound, user_units_of};
 ghost use Rattle.numbering.specs.Positions.{parity_position, data_position, data_number};
@@ -9,7 +11,7 @@ ghost use Rattle.numbering.specs.Ranges.{DigitsIn, Fitting};
 use geometry::{Geometry, Tuple, UserUnit};
 
 // User unit n is label (row,column) in the data region of this number of the tuple.
-#[derive(Drop)]
+#[derive(Clone, Copy)]
 pub struct Digits {
     pub tuple: Tuple,
     pub region: u32,

@@ -10,7 +10,7 @@ use lib.ListN.{get_or, length, take, drop}
 use lib.Seq.{take-append_seam}
 use borrow.Author.Tests.{eq-eqb, eqb-true}
 use contract.Lifetimes.{Lfts}
-use denote.Ref.{Bor}
+use denote.Ref.{Bor, MutBor}
 use Rattle.counting.proofs.Laws.{count_one}
 use Rattle.refusal.specs.Refusal.{accepted, verdict}
 use Rattle.refusal.specs.Due.{NoneDue}
@@ -81,8 +81,8 @@ the_lost_disk_is_planned κs G design array marks x h list room r last p =
 
 -- what an accepted rebuild leaves
 rebuilt_is :
-    (κs : Lfts 3) (G : Geometry) (design array marks : Bor (List ℕ)) (x : ℕ) → Ready G design array marks x →
-    (r : Rebuilt) (bytes left : Bor (List ℕ)) → Rebuilds κs G design array marks r bytes left →
+    (κs : Lfts 3) (G : Geometry) (design : Bor (List ℕ)) (array marks : MutBor (List ℕ)) (x : ℕ) → Ready G design array marks x →
+    (r : Rebuilt) (bytes left : MutBor (List ℕ)) → Rebuilds κs G design array marks r bytes left →
     bytes.now ≡ rebuilt_of G design.now marks.now array.now
 rebuilt_is κs G design array marks x h r bytes left p =
     (rebuild_accepted κs G design array marks (units_of G) bytes left
@@ -92,8 +92,8 @@ rebuilt_is κs G design array marks x h r bytes left p =
 
 -- the plan that an accepted plan call leaves
 plan_left :
-    (κs : Lfts 2) (G : Geometry) (design array marks : Bor (List ℕ)) (x : ℕ) → Ready G design array marks x →
-    (list : Bor (List ℕ)) → 3 * triples_of G ≤ length list.now → (r : Planned) (last : Bor (List ℕ)) →
+    (κs : Lfts 2) (G : Geometry) (design : Bor (List ℕ)) (array marks : MutBor (List ℕ)) (x : ℕ) → Ready G design array marks x →
+    (list : MutBor (List ℕ)) → 3 * triples_of G ≤ length list.now → (r : Planned) (last : MutBor (List ℕ)) →
     Plans κs G design x list r last → take (3 * triples_of G) last.now ≡ plan_of G design.now x
 unfolding planned
 plan_left κs G design array marks x h list room r last p =

@@ -43,6 +43,7 @@ module _ (G : Geometry) (a b : List ℕ) (i y : ℕ) where
       ((t : Triple) → Among t ts → f t ≡ false → part b t ≡ part a t) → part b s ≡ bit_xor (part a s) e →
       source_sum G b i y ts ≡ bit_xor (source_sum G a i y ts) e
   unfolding source_sum
+  sum_differs f e s [] m l h same differs = elim m [ ]
   sum_differs f e s (t ∷ ts) (inl p) l h same differs =
       ap₂ bit_xor (ap (part b) p ∙ differs ∙ ap (λ (r : Triple). bit_xor (part a r) e) (sym p))
       (sum_stays ts (λ r m. same r (inr m) (none_counted f r ts m (first_only f t ts l (ap f p ∙ h)))))

@@ -17,7 +17,7 @@ use Rattle.region.specs.Columns.{label_column, diagonal_column}
 use Rattle.cells.specs.declared.Cell.{Cell}
 use Rattle.cells.specs.Cells.{label_of, diagonal_of}
 use Rattle.region.proofs.Turns.{diagonal_at_lt, diagonal_once}
-use Rattle.cells.proofs.Sets.{diagonal_column}
+use Rattle.cells.proofs.Sets.{diagonal_column_lem}
 use Rattle.layout.specs.declared.Place.{Place}
 use Rattle.layout.specs.Places.{place, place_of, cell_at}
 use Rattle.layout.proofs.Theorems.{cells_are_places}
@@ -142,4 +142,4 @@ module _ (G : Geometry) (d : List ℕ) (L : Laid G d) (x : ℕ) (hx : x < disks_
           o.other
           (diagonal_once G.g (diagonal_of G (at y)) e (at y).row
           (let low = diagonal_at_lt G.g (at y).row (at y).column g_pos in omega arith) o.below v.row
-          ((inner_disk y e x hy o w).1 ∙ sym (diagonal_column G L.sound (at y) v)))
+          ((inner_disk y e x hy o w).1 ∙ sym (diagonal_column_lem G L.sound (at y) v)))

@@ -26,10 +26,12 @@ Among s [] = ⊥
 Among s (t ∷ ts) = (t ≡ s) ⊎ Among s ts
 
 pub triple_among : (y z w : ℕ) (ts : List Triple) → IsTriple y z w ts → Among (record { restores = y; disk = z; unit = w }) ts
+triple_among y z w [] m = elim m [ ]
 triple_among y z w (t ∷ ts) (inl e) = inl e
 triple_among y z w (t ∷ ts) (inr m) = inr (triple_among y z w ts m)
 
 pub among_triple : (s : Triple) (ts : List Triple) → Among s ts → IsTriple s.restores s.disk s.unit ts
+among_triple s [] m = elim m [ ]
 among_triple s (t ∷ ts) (inl e) = inl e
 among_triple s (t ∷ ts) (inr m) = inr (among_triple s ts m)
 
@@ -41,6 +43,7 @@ module _ (f : Triple → Bool) where
 
   counted_in : (s : Triple) (ts : List Triple) → Among s ts → f s ≡ true → 1 ≤ count_in f ts
   unfolding count_in
+  counted_in s [] m h = elim m [ ]
   counted_in s (t ∷ ts) (inl e) h = let p : f t ≡ true = ap f e ∙ h in rw p (omega arith)
   counted_in s (t ∷ ts) (inr m) h = omega (arith, counted_in s ts m h, one_more (f t) (count_in f ts))
 
@@ -61,6 +64,7 @@ module _ (f : Triple → Bool) where
   -- two that pass are one
   pub only_one :
       (ts : List Triple) → count_in f ts ≤ 1 → (s t : Triple) → Among s ts → Among t ts → f s ≡ true → f t ≡ true → s ≡ t
+  only_one [] l s t p q hs ht = elim p [ ]
   only_one (r ∷ ts) l s t (inl p) (inl q) hs ht = sym p ∙ q
   only_one (r ∷ ts) l s t (inl p) (inr q) hs ht =
       bool_not_both (f t) ht (none_counted t ts q (first_only r ts l (ap f p ∙ hs)))

@@ -19,7 +19,7 @@ use Rattle.cells.specs.Cells.{diagonal_of}
 use Rattle.cells.specs.Sets.{inner_member}
 use Rattle.cells.specs.Ranges.{CellIn}
 use Rattle.region.proofs.Turns.{diagonal_column_lt, diagonal_at_lt, diagonal_once}
-use Rattle.cells.proofs.Sets.{diagonal_column}
+use Rattle.cells.proofs.Sets.{diagonal_column_lem}
 use Rattle.layout.specs.Regions.{part_of}
 use Rattle.layout.specs.Places.{place_of, cell_at}
 use Rattle.onedisk.specs.Sources.{in_part}
@@ -89,7 +89,7 @@ module _ (G : Geometry) (d : List ℕ) (L : Laid G d) (x : ℕ) (hx : x < disks_
     unfolding cell_at
     not_own w =
         let columns : z % G.g ≡ x % G.g =
-        sym meets.2 ∙ ap (diagonal_column G.g diagonal) w ∙ diagonal_column G L.sound (at last_unit) v
+        sym meets.2 ∙ ap (diagonal_column G.g diagonal) w ∙ diagonal_column_lem G L.sound (at last_unit) v
         in
         ne (sym (div-add-mod' z G.g) ∙ ap₂ (λ (a c : ℕ). a * G.g + c) same columns ∙ div-add-mod' x G.g)
 

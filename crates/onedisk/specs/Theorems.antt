@@ -1,7 +1,7 @@
 -- What is proved of an array with one disk lost, each under its sentence of 00 or 01: the statements alone. Assumes nothing.
 use Rattle.std.specs.Prelude.{ℕ, ◌*◌, ◌≤◌, ◌<◌, ◌≡◌, List, length, take}
 use contract.Lifetimes.{Lfts}
-use Rattle.std.specs.Borrow.{Bor}
+use Rattle.std.specs.Borrow.{Bor, MutBor}
 use Rattle.geometry.specs.declared.Geometry.{Geometry}
 use Rattle.geometry.specs.Geometry.{tuples_of, disks_of, units_of, bytes_of}
 use Rattle.design.specs.Design.{Laid}
@@ -56,22 +56,22 @@ AChangedByteChangesWhatThePlanSays =
 -- "rebuild is accepted": only the number of the disk's units can be answered
 abbrev pub OneLostDiskIsRebuilt : Type 0
 OneLostDiskIsRebuilt =
-    (κs : Lfts 3) (G : Geometry) (design array marks : Bor (List ℕ)) (x : ℕ) → Ready G design array marks x →
-    (r : Rebuilt) (bytes left : Bor (List ℕ)) → Rebuilds κs G design array marks r bytes left → r ≡ Restored (units_of G)
+    (κs : Lfts 3) (G : Geometry) (design : Bor (List ℕ)) (array marks : MutBor (List ℕ)) (x : ℕ) → Ready G design array marks x →
+    (r : Rebuilt) (bytes left : MutBor (List ℕ)) → Rebuilds κs G design array marks r bytes left → r ≡ Restored (units_of G)
 
 -- and the plan, of a list that is not shorter than 3·r(g-1)k: only r(g-1)k can be
 abbrev pub TheLostDiskIsPlanned : Type 0
 TheLostDiskIsPlanned =
-    (κs : Lfts 2) (G : Geometry) (design array marks : Bor (List ℕ)) (x : ℕ) → Ready G design array marks x →
-    (list : Bor (List ℕ)) → 3 * triples_of G ≤ length list.now → (r : Planned) (last : Bor (List ℕ)) →
+    (κs : Lfts 2) (G : Geometry) (design : Bor (List ℕ)) (array marks : MutBor (List ℕ)) (x : ℕ) → Ready G design array marks x →
+    (list : MutBor (List ℕ)) → 3 * triples_of G ≤ length list.now → (r : Planned) (last : MutBor (List ℕ)) →
     Plans κs G design x list r last → r ≡ Triples (triples_of G)
 
 -- demand 3: both calls are accepted, and what rebuild leaves of the lost disk is what the plan, as the plan call leaves it, says
 abbrev pub Demand3 : Type 0
 Demand3 =
-    (κs κt : Lfts 3) (κp : Lfts 2) (G : Geometry) (design array marks list : Bor (List ℕ)) (x : ℕ) →
+    (κs κt : Lfts 3) (κp : Lfts 2) (G : Geometry) (design : Bor (List ℕ)) (array marks list : MutBor (List ℕ)) (x : ℕ) →
     Ready G design array marks x → 3 * triples_of G ≤ length list.now →
-    (r : Rebuilt) (bytes left : Bor (List ℕ)) → Rebuilds κs G design array marks r bytes left →
-    (q : Planned) (last : Bor (List ℕ)) → Plans κp G design x list q last →
+    (r : Rebuilt) (bytes left : MutBor (List ℕ)) → Rebuilds κs G design array marks r bytes left →
+    (q : Planned) (last : MutBor (List ℕ)) → Plans κp G design x list q last →
     (r ≡ Restored (units_of G)) × (q ≡ Triples (triples_of G))
     × AsPlanned κt G design array marks x bytes (triples_in (take (3 * triples_of G) last.now))

@@ -1,4 +1,6 @@
 // What the passes over one tuple reach (01, "Calls", rebuild), from the lost disks alone: no byte of the array is named.
+#![tactic(auto)]
+
 ghost use Rattle.std.specs.Prelude.{◌≡◌, false, ℕ, ◌+◌, ◌*◌, ◌%◌, ◌≤◌, ◌<◌, length, get_or};
 ghost use Rattle.std.proofs.lemmas.List.Edits.{sets};
 ghost use Rattle.counting.specs.Counting.{any_below};
@@ -117,7 +119,7 @@ fn touched(geometry: Geometry, design: &[u16], lost: &[bool], tuple: Tuple) -> b
 }
 
 // What the passes over a tuple reach: how many entries the log has, and whether every cell is present at their end.
-#[derive(Drop)]
+#[derive(Clone, Copy)]
 pub struct Reached {
     pub count: usize,
     pub complete: bool,

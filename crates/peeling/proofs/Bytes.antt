@@ -114,6 +114,7 @@ module _ (start : ℕ → Bool) (sides : ℕ → List Side) (n : ℕ) where
           byte_elsewhere a s ss x e ∙ ih x (sym (present_elsewhere start s ss x e) ∙ h) ∙ sym (byte_elsewhere b s ss x e)
 
   zero_among : (b : ℕ → ℕ) (x : ℕ) (vs : List Side) (v : Side) → AllZero b x vs → Among v vs → rest_sum b v v.size ≡ b x
+  zero_among b x [] v zs m = elim m [ ]
   zero_among b x (w ∷ ws) v ((o, z), zs) (inl e) = rw e (zero_rest b x w o z)
   zero_among b x (w ∷ ws) v ((o, z), zs) (inr m) = zero_among b x ws v zs m
 

@@ -31,10 +31,12 @@ Every P [] = Unit {0}
 Every P (v ∷ vs) = P v × Every P vs
 
 pub every_among : (P : Side → Type 0) (vs : List Side) (v : Side) → Every P vs → Among v vs → P v
+every_among P [] v h m = elim m [ ]
 every_among P (w ∷ ws) v (h, hs) (inl e) = subst P (sym e) h
 every_among P (w ∷ ws) v (h, hs) (inr m) = every_among P ws v hs m
 
 pub some_among : (R : ℕ → Type 0) (vs : List Side) (v : Side) → Among v vs → Rest R v → SomeRest R vs
+some_among R [] v m r = elim m [ ]
 some_among R (w ∷ ws) v (inl e) r = inl (subst (Rest R) e r)
 some_among R (w ∷ ws) v (inr m) r = inr (some_among R ws v m r)
 
@@ -99,6 +101,7 @@ module _ (present : ℕ → Bool) where
   pub some_rest_lacks_only :
       {X : Type 0} (vs : List Side) → Every (λ (v : Side). lacks_only present v ≡ false) vs →
       SomeRest (λ (x : ℕ). present x ≡ true) vs → X
+  some_rest_lacks_only {X = X} [] h m = elim m [ ]
   some_rest_lacks_only (v ∷ vs) (h, hs) (inl r) = bool_not_both (lacks_only present v) (rest_lacks_only v r) h
   some_rest_lacks_only (v ∷ vs) (h, hs) (inr m) = some_rest_lacks_only vs hs m
 

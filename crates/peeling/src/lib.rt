@@ -1,1 +1,2 @@
 // The passes of a rebuild over the cells of one tuple: definitions and theorems only.
+#![tactic(auto)]

@@ -5,7 +5,7 @@ use mathlib.Core.Path.{◌≡◌, refl, sym, ap, ◌∙◌}
 use mathlib.Core.List.{List}
 use lib.ListN.{length}
 use contract.Lifetimes.{Lfts}
-use denote.Ref.{MutBor, at_last}
+use denote.Ref.{Bor, MutBor, at_last}
 use Rattle.refusal.specs.declared.Refusal.{Refusal}
 use Rattle.refusal.specs.Refusal.{Outcome, refused, accepted, answer, kept}
 use Rattle.refusal.specs.Due.{Exact}
@@ -31,7 +31,7 @@ pub some_planned : (o : Outcome ℕ) → (r : Planned) × (planned_outcome r ≡
 some_planned (refused n p) = (Refused (record { number = n; place = p }), refl)
 some_planned (accepted n) = (Triples n, refl)
 
-module _ (κs : Lfts 2) (G : Geometry) (design : MutBor (List ℕ)) (disk : Disk) (list : MutBor (List ℕ)) where
+module _ (κs : Lfts 2) (G : Geometry) (design : Bor (List ℕ)) (disk : Disk) (list : MutBor (List ℕ)) where
   -- what the contract allows to be answered, and to be held by the list at return
   abbrev pub Allowed : Planned → MutBor (List ℕ) → Type 0
   Allowed r last = plan.Post κs (G, (design, (disk, (list, tt)))) r (G, (design, (disk, (last, tt))))

@@ -1,5 +1,7 @@
 // The plan for one disk: which units are read to restore each of its units (01). The design is scanned once for each part of the
 // disk and once for each region of the part's tuple, never for a unit.
+#![tactic(auto)]
+
 ghost use Rattle.std.specs.Prelude.{◌+◌, ◌≤◌, ◌<◌, ◌≡◌, length};
 ghost use Rattle.std.proofs.lemmas.List.Edits.{sets};
 ghost use Rattle.refusal.specs.Refusal.{answer, kept};
@@ -15,7 +17,7 @@ use geometry::{Disk, Geometry, Part, Tuple, Unit};
 use refusal::{Checked, Refusal};
 
 // How many triples were written, or the refusal.
-#[derive(Drop)]
+#[derive(Clone, Copy)]
 pub enum Planned {
     Triples(u32),
     Refused(Refusal),

@@ -88,9 +88,9 @@ module _ (q : Question) where
 
 -- what is printed, by what the line asks
 module _ (line old : List ℕ) (r : ℕ) (last : List ℕ) where
-  pub unread_text : parsed line ≡ Unread → Front unread_text old r last → Front (shown line) old r last
+  pub unread_text_lem : parsed line ≡ Unread → Front unread_text old r last → Front (shown line) old r last
   unfolding shown
-  unread_text e f = rw e f
+  unread_text_lem e f = rw e f
 
   pub asked_text : (q : Question) → parsed line ≡ Asked q → Front (answer_text (answered q)) old r last → Front (shown line) old r last
   unfolding shown

@@ -1,5 +1,5 @@
 -- What is proved of the plan printer's text, each under its sentence of 01: the statements alone. Those over the call's own
--- contract are `two-results` and `some_result` (proofs/TwoResults.antt). Assumes nothing.
+-- contract are `two_results` and `some_result` (proofs/TwoResults.antt). Assumes nothing.
 use Rattle.std.specs.Prelude.{ℕ, ◌*◌, ◌≤◌, ◌<◌, ◌≡◌, ◌⊎◌, ◌↔◌, List, [], ◌∷◌, length, take}
 use Rattle.refusal.specs.Due.{Row, row, Due}
 use Rattle.held.specs.Held.{table, held_design}

@@ -1,4 +1,6 @@
 // The plan printer's text: reads its line, makes the plan of the held design, and renders it into lent bytes.
+#![tactic(auto)]
+
 ghost use Rattle.std.specs.Prelude.{◌≡◌, ◌++◌, ◌*◌, ◌≤◌, length, drop};
 ghost use Rattle.refusal.specs.Refusal.{answer, kept};
 ghost use Rattle.held.specs.Held.{set_for, held_design};

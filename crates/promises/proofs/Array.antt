@@ -3,12 +3,12 @@ use mathlib.Core.Path.{sym, ◌∙◌}
 use contract.Lifetimes.{Lfts}
 use Rattle.refusal.proofs.Same.{same_checked}
 use Rattle.promises.proofs.Settled.{Settled}
-use Rattle.array.proofs.start_of.Reads as start_of_lem
+use Rattle.array.proofs.start_of.Reads as start_of
 use Rattle.array.proofs.array_fits.Reads as array-fits
 use Rattle.array.proofs.is_lost.Reads as is_lost
 use Rattle.array.proofs.check_range.Reads as check-range
 
-pub start_of_two_results : (κs : Lfts 0) → Settled (start_of_lem.Post κs)
+pub start_of_two_results : (κs : Lfts 0) → Settled (start_of.Post κs)
 start_of_two_results κs a x y r s p q = p.0 ∙ sym q.0
 
 pub array_fits_two_results : (κs : Lfts 0) → Settled (array-fits.Post κs)

@@ -1,1 +1,2 @@
 // What every promise settles: theorems only, over the promises of the public functions.
+#![tactic(auto)]

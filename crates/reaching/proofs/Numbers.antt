@@ -9,7 +9,7 @@ use Rattle.geometry.specs.Geometry.{Sound, tuples_of}
 use Rattle.cells.specs.declared.Cell.{Cell}
 use Rattle.cells.specs.Cells.{cell}
 use Rattle.cells.specs.Ranges.{CellIn}
-use Rattle.cells.proofs.Sets.{label_column, diagonal_column}
+use Rattle.cells.proofs.Sets.{label_column_lem, diagonal_column_lem}
 use Rattle.reaching.specs.Reach.{tuple_cells_of, number_of, cell_numbered, outer_side, inner_side}
 use Rattle.reaching.specs.Theorems.{TheCellsOfATupleAreNumbered, ACellStandsInItsSets}
 
@@ -59,6 +59,6 @@ pub a_cell_stands_in_its_sets : ACellStandsInItsSets
 unfolding outer_side inner_side
 a_cell_stands_in_its_sets G d l x h =
     record {
-      outer = record { low = h.position; is = ap (λ (c : ℕ). number_of G (cell x.tuple.0 x.position x.row c)) (label_column G l.sound x h) };
-      inner = record { low = h.row; is = ap (λ (c : ℕ). number_of G (cell x.tuple.0 x.position x.row c)) (diagonal_column G l.sound x h) };
+      outer = record { low = h.position; is = ap (λ (c : ℕ). number_of G (cell x.tuple.0 x.position x.row c)) (label_column_lem G l.sound x h) };
+      inner = record { low = h.row; is = ap (λ (c : ℕ). number_of G (cell x.tuple.0 x.position x.row c)) (diagonal_column_lem G l.sound x h) };
     }

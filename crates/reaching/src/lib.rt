@@ -1,5 +1,7 @@
 // The passes over one tuple (01, "Calls", rebuild): which units they restore, and from which sets. They work on one flag a
 // cell and write a log; the array's bytes come later, by the log.
+#![tactic(auto)]
+
 ghost use Rattle.std.specs.Prelude.{◌≡◌, ◌+◌, ◌%◌, ◌≤◌, ◌<◌, length};
 ghost use Rattle.geometry.specs.Geometry.{Sound, tuples_of};
 ghost use Rattle.cells.specs.Ranges.{CellIn};
@@ -12,7 +14,7 @@ use cells::Cell;
 use geometry::{Geometry, Tuple};
 
 // A set as one of its cells sees it, of either kind: unit q is cell base + typeof.q.step + (column + q·turn) % g of the tuple.
-#[derive(Drop)]
+#[derive(Clone, Copy)]
 pub struct Set {
     pub size: u32,
     pub own: u32,

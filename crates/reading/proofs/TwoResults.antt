@@ -5,7 +5,7 @@ use mathlib.Core.Path.{◌≡◌, refl, sym, ◌∙◌}
 use mathlib.Core.List.{List}
 use lib.ListN.{length}
 use contract.Lifetimes.{Lfts}
-use denote.Ref.{MutBor, at_last}
+use denote.Ref.{Bor, MutBor, at_last}
 use Rattle.refusal.specs.declared.Checked.{Checked}
 use Rattle.refusal.specs.declared.Checked.TheVariants.{Fine}
 use Rattle.refusal.specs.Refusal.{verdict, kept, checked_outcome}
@@ -20,7 +20,7 @@ use Rattle.reading.specs.Reasons.{read_rows}
 use Rattle.reading.proofs.Reasons.{read_exact}
 use Rattle.reading.proofs.read.Reads as read
 
-module _ (κs : Lfts 4) (G : Geometry) (design array marks : MutBor (List ℕ)) (n : UserUnit) (offset : ℕ) (out : MutBor (List ℕ)) where
+module _ (κs : Lfts 4) (G : Geometry) (design array marks : Bor (List ℕ)) (n : UserUnit) (offset : ℕ) (out : MutBor (List ℕ)) where
   -- what the contract allows to be answered, and to be held by the buffer at return
   abbrev pub Allowed : Checked → MutBor (List ℕ) → Type 0
   Allowed r last =

@@ -1,4 +1,6 @@
 // The read: a byte range of one user unit, into a lent buffer (01).
+#![tactic(auto)]
+
 ghost use Rattle.std.specs.Prelude.{◌+◌, ◌≤◌, ◌<◌, ◌≡◌, [], ◌∷◌, length};
 ghost use Rattle.refusal.specs.Refusal.{verdict, kept, checked_outcome};
 ghost use Rattle.geometry.specs.Geometry.{Sound, bytes_of};

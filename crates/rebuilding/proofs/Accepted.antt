@@ -5,7 +5,7 @@ use mathlib.Core.Bool.{false}
 use mathlib.Core.List.{List, [], ◌∷◌, ◌++◌}
 use lib.ListN.{length, replicate}
 use contract.Lifetimes.{Lfts}
-use denote.Ref.{Bor}
+use denote.Ref.{Bor, MutBor}
 use Rattle.counting.proofs.Laws.{any_none, none_any}
 use Rattle.refusal.specs.Refusal.{accepted, answer, verdict}
 use Rattle.refusal.specs.Due.{NoneDue}
@@ -27,9 +27,9 @@ use Rattle.rebuilding.specs.declared.Rebuilt.TheVariants.{Restored}
 use Rattle.rebuilding.specs.Rebuild.{restored_of, tuple_rule, rebuild_rules}
 use Rattle.rebuilding.specs.Theorems.{Complete, SamePresent, PresentStay}
 use Rattle.rebuilding.proofs.Theorems.{
-  units-of-present-disks-stay,
-  the-count-is-of-the-units-on-lost-disks,
-  consistent-arrays-come-back,
+  units_of_present_disks_stay,
+  the_count_is_of_the_units_on_lost_disks,
+  consistent_arrays_come_back,
 }
 use Rattle.rebuilding.proofs.TwoResults.{Allowed, same_rebuilt, rebuild_accepted}
 
@@ -64,10 +64,10 @@ module _ (G : Geometry) (d a marks : List ℕ) where
       counted : answer (rebuild_rules G d (length a) marks) (restored_of G d marks) ≡ accepted (lost_disks G marks * units_of G)
       counted =
           lets_through
-          ∙ ap accepted (the-count-is-of-the-units-on-lost-disks G d marks a (let_through (restored_of G d marks) lets_through))
+          ∙ ap accepted (the_count_is_of_the_units_on_lost_disks G d marks a (let_through (restored_of G d marks) lets_through))
 
 -- ---- what an accepted rebuild leaves
-module _ (κs : Lfts 3) (G : Geometry) (design array marks : Bor (List ℕ)) (n : ℕ) (x m : Bor (List ℕ))
+module _ (κs : Lfts 3) (G : Geometry) (design : Bor (List ℕ)) (array marks : MutBor (List ℕ)) (n : ℕ) (x m : MutBor (List ℕ))
     (p : Allowed κs G design array marks (Restored n) x m) where
   pub accepted_complete : Complete G design.now marks.now array.now
   accepted_complete = let_through G design.now array.now marks.now n (sym p.0)
@@ -76,13 +76,13 @@ module _ (κs : Lfts 3) (G : Geometry) (design array marks : Bor (List ℕ)) (n 
   pub accepted_present : PresentStay G marks.now array.now x.now
   accepted_present =
       rw (rebuild_accepted κs G design array marks n x m p).1
-      (units-of-present-disks-stay G design.now marks.now array.now accepted_complete)
+      (units_of_present_disks_stay G design.now marks.now array.now accepted_complete)
 
   -- "the count of restored units is returned, which is the number of units on lost disks"
   pub accepted_count : n ≡ lost_disks G marks.now * units_of G
   accepted_count =
       (rebuild_accepted κs G design array marks n x m p).0
-      ∙ the-count-is-of-the-units-on-lost-disks G design.now marks.now array.now accepted_complete
+      ∙ the_count_is_of_the_units_on_lost_disks G design.now marks.now array.now accepted_complete
 
   -- "marks become 0"
   pub accepted_marks : m.now ≡ replicate (disks_of G) 0
@@ -95,11 +95,11 @@ module _ (κs : Lfts 3) (G : Geometry) (design array marks : Bor (List ℕ)) (n 
       → x.now ≡ before
   accepted_comes_back before long c same =
       (rebuild_accepted κs G design array marks n x m p).1
-      ∙ consistent-arrays-come-back G design.now marks.now before array.now accepted_complete long c same
+      ∙ consistent_arrays_come_back G design.now marks.now before array.now accepted_complete long c same
 
 -- ---- losses that are accepted, where none of 2 to 8 is due
-module _ (κs : Lfts 3) (G : Geometry) (design array marks : Bor (List ℕ))
-    (none : NoneDue (array_rows G design.now (length array.now) marks.now)) (r : Rebuilt) (x m : Bor (List ℕ))
+module _ (κs : Lfts 3) (G : Geometry) (design : Bor (List ℕ)) (array marks : MutBor (List ℕ))
+    (none : NoneDue (array_rows G design.now (length array.now) marks.now)) (r : Rebuilt) (x m : MutBor (List ℕ))
     (p : Allowed κs G design array marks r x m) where
   complete_accepted :
       ((t : ℕ) → t < tuples_of G → incomplete G design.now marks.now t ≡ false)

@@ -21,7 +21,7 @@ use Rattle.leaves.proofs.Runs.{at_run}
 use Rattle.array.specs.Array.{start_of, cell_start}
 use Rattle.consistent.specs.Consistent.{outer_starts, inner_starts}
 use Rattle.consistent.specs.Theorems.{BothParities}
-use Rattle.consistent.proofs.Theorems.{consistent-means-both-parities}
+use Rattle.consistent.proofs.Theorems.{consistent_means_both_parities}
 use Rattle.peeling.specs.Peeling.{Side, byte_after}
 use Rattle.peeling.specs.Theorems.{Own, AllZero, Reached, side_sum}
 use Rattle.peeling.proofs.Sides.{Every}
@@ -162,7 +162,7 @@ consistent_arrays_come_back G d marks before now c long consistent same =
     units_same G d c.laid (rebuilt_of G d marks now) before (rebuilt_length G d marks c.laid now c.whole) long
     (λ x v j l.
     comes_back G d marks now c x v j l before
-    ((consistent-means-both-parities G c.laid.sound d before).0 consistent) same)
+    ((consistent_means_both_parities G c.laid.sound d before).0 consistent) same)
 
 pub what_lost_disks_hold_does_not_count : WhatLostDisksHoldDoesNotCount
 what_lost_disks_hold_does_not_count G d marks a b c long same =

@@ -154,15 +154,15 @@ module _ (G : Geometry) (d marks a : List ℕ) (c : Complete G d marks a) where
       ∙ count_same (λ (n : ℕ). not (here_of G d marks t n)) (λ (n : ℕ). lost G marks (place_of G d (cell_numbered G t n)))
       (tuple_cells_of G) (λ n q. not_not (lost G marks (place_of G d (cell_numbered G t n))))
 
-  restored_below :
+  restored_below_lem :
       (n : ℕ) → n ≤ tuples_of G →
       restored_below G d marks n
       ≡ sum_below (λ (t : ℕ). count_below (λ (m : ℕ). lost G marks (place_of G d (cell_numbered G t m))) (tuple_cells_of G)) n
   unfolding restored_below sum_below
-  restored_below zero h = refl
-  restored_below (suc n) h = ap₂ (λ (x y : ℕ). x + y) (restored_below n (omega arith)) (steps_count n (omega arith))
+  restored_below_lem zero h = refl
+  restored_below_lem (suc n) h = ap₂ (λ (x y : ℕ). x + y) (restored_below_lem n (omega arith)) (steps_count n (omega arith))
 
 pub the_count_is_of_the_units_on_lost_disks : TheCountIsOfTheUnitsOnLostDisks
 unfolding restored_of
 the_count_is_of_the_units_on_lost_disks G d marks a c =
-    restored_below G d marks a c (tuples_of G) (omega arith) ∙ lost_cells G d c.laid marks ∙ lost_units G marks
+    restored_below_lem G d marks a c (tuples_of G) (omega arith) ∙ lost_cells G d c.laid marks ∙ lost_units G marks

@@ -5,7 +5,7 @@ use mathlib.Core.Path.{◌≡◌, refl, sym, ap, ◌∙◌}
 use mathlib.Core.List.{List}
 use lib.ListN.{length}
 use contract.Lifetimes.{Lfts}
-use denote.Ref.{MutBor, at_last}
+use denote.Ref.{Bor, MutBor, at_last}
 use Rattle.refusal.specs.declared.Refusal.{Refusal}
 use Rattle.refusal.specs.Refusal.{Outcome, refused, accepted, answer, kept}
 use Rattle.refusal.specs.Due.{Exact}
@@ -31,7 +31,7 @@ some_rebuilt : (o : Outcome ℕ) → (r : Rebuilt) × (rebuilt_outcome r ≡ o)
 some_rebuilt (refused n p) = (Refused (record { number = n; place = p }), refl)
 some_rebuilt (accepted n) = (Restored n, refl)
 
-module _ (κs : Lfts 3) (G : Geometry) (design array marks : MutBor (List ℕ)) where
+module _ (κs : Lfts 3) (G : Geometry) (design : Bor (List ℕ)) (array marks : MutBor (List ℕ)) where
   -- what the contract allows to be answered, and to be held by the array and the marks at return
   abbrev pub Allowed : Rebuilt → (bytes left : MutBor (List ℕ)) → Type 0
   Allowed r bytes left = rebuild.Post κs (G, (design, (array, (marks, tt)))) r (G, (design, (bytes, (left, tt))))

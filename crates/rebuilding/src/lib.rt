@@ -1,4 +1,6 @@
 // The rebuild (01): the lost disks get their bytes back from the present ones, or the refusal, before any byte moves.
+#![tactic(auto)]
+
 ghost use Rattle.std.specs.Prelude.{ℕ, ◌≤◌, ◌<◌, ◌≡◌, false, [], ◌∷◌, get_or, length};
 ghost use Rattle.counting.specs.Counting.{count_below, lowest};
 ghost use Rattle.refusal.specs.Refusal.{answer, kept};
@@ -13,7 +15,7 @@ use geometry::{Geometry, Tuple};
 use refusal::{Checked, Refusal};
 
 // "the count of restored units", or the refusal.
-#[derive(Drop)]
+#[derive(Clone, Copy)]
 pub enum Rebuilt {
     Restored(u32),
     Refused(Refusal),

@@ -62,9 +62,9 @@ diagonal_once g j i n h p q e =
     sym (row_of_column g j i h p) ∙ ap (λ (x : ℕ). (x + j) % g) e ∙ row_of_column g j n h q
 
 -- equation 2: "Row g-1 holds its parity, in column g-1-j"
-pub parity_column : (g j : ℕ) → j < g → diagonal_column g j (g - 1) ≡ parity_column g j
+pub parity_column_lem : (g j : ℕ) → j < g → diagonal_column g j (g - 1) ≡ parity_column g j
 unfolding diagonal_column
-parity_column g j h = mod_turned g 1 (g - 1 - j) (g - 1 + (g - j)) (omega arith) (omega arith)
+parity_column_lem g j h = mod_turned g 1 (g - 1 - j) (g - 1 + (g - j)) (omega arith) (omega arith)
 
 -- i - (i - j) is j, modulo g
 turn_twice : (g i j : ℕ) → i < g → j < g → (i + (g - (i + (g - j)) % g)) % g ≡ j
@@ -93,4 +93,4 @@ diagonal_at_lt g i x h = mod-lt (i + (g - x)) h
 
 pub parity_diagonal : (g j : ℕ) → j < g → diagonal_at g (g - 1) (parity_column g j) ≡ j
 parity_diagonal g j h =
-    ap (diagonal_at g (g - 1)) (sym (parity_column g j h)) ∙ diagonal_of_column g (g - 1) j (omega arith) h
+    ap (diagonal_at g (g - 1)) (sym (parity_column_lem g j h)) ∙ diagonal_of_column g (g - 1) j (omega arith) h

@@ -1,5 +1,7 @@
 // The columns of one region (01, "The two parities": "one part of all g disks of a group, rows and columns 0 to g-1"): where
 // its labels, its diagonals and their parities stand. Plain numbers: a region knows neither its tuple nor its disks.
+#![tactic(auto)]
+
 ghost use Rattle.std.specs.Prelude.{◌≤◌, ◌<◌, ◌≡◌};
 ghost use Rattle.region.specs.Columns.{label_column, label_at, diagonal_column, diagonal_at, parity_column, Small};
 

@@ -104,15 +104,15 @@ module _ (G : Geometry) (d : List ℕ) (L : Laid G d) (t : ℕ) (ht : t < tuples
         (diagonal_in G L.sound at (numbered.there n h)))
         (λ i. refl) (λ i m. ap (λ (x : Cell). x.row))
 
-    pub sides_of : Every (SideOf G n) (sides_of G t n)
-    sides_of = every_side (SideOf G n) n outer_side_of inner_side_of
+    pub sides_of_lem : Every (SideOf G n) (sides_of G t n)
+    sides_of_lem = every_side (SideOf G n) n outer_side_of inner_side_of
 
   pub valid_of_tuple :
       (start : ℕ → Bool) (ss : List Step) → Valid start (sides_of G t) (tuple_cells_of G) ss → OfTuple G ss
   valid_of_tuple start [] v = tt {0}
   valid_of_tuple start (s ∷ ss) (f, v) = (
     f.below,
-    every_among (SideOf G s.cell) (sides_of G t s.cell) s.side (sides_of s.cell f.below) f.among,
+    every_among (SideOf G s.cell) (sides_of G t s.cell) s.side (sides_of_lem s.cell f.below) f.among,
     valid_of_tuple start ss v,
   )
 

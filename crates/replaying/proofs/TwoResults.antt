@@ -4,14 +4,14 @@ use Prim.Native.Nat.{ℕ}
 use mathlib.Core.Path.{◌≡◌, refl, sym, ◌∙◌}
 use mathlib.Core.List.{List}
 use contract.Lifetimes.{Lfts}
-use denote.Ref.{MutBor, at_last}
+use denote.Ref.{Bor, MutBor, at_last}
 use Rattle.geometry.specs.declared.Geometry.{Geometry}
 use Rattle.geometry.specs.declared.Tuple.{Tuple}
 use Rattle.reaching.specs.State.{log_steps}
 use Rattle.replaying.specs.Replay.{replayed}
 use Rattle.replaying.proofs.replay.Reads as replay
 
-module _ (κs : Lfts 3) (geometry : Geometry) (design : MutBor (List ℕ)) (tuple : Tuple) (log : MutBor (List ℕ)) (count : ℕ) (array : MutBor (List ℕ)) where
+module _ (κs : Lfts 3) (geometry : Geometry) (design : Bor (List ℕ)) (tuple : Tuple) (log : Bor (List ℕ)) (count : ℕ) (array : MutBor (List ℕ)) where
   -- what the contract allows the array to hold at return
   abbrev pub Allowed : MutBor (List ℕ) → Type 0
   Allowed last =

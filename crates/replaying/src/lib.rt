@@ -1,5 +1,7 @@
 // The bytes of the units that the passes restore in a tuple (01, rebuild), by the log that the passes wrote. The design is read
 // once for each region of the tuple, never for an entry.
+#![tactic(auto)]
+
 ghost use Rattle.std.specs.Prelude.{◌*◌, ◌≤◌, ◌<◌, ◌≡◌, true, false, length};
 ghost use Rattle.geometry.specs.Geometry.{Sound, tuples_of, bytes_of};
 ghost use Rattle.design.specs.Design.{Laid};

@@ -4,11 +4,11 @@ use Prim.Native.Nat.{ℕ}
 use mathlib.Core.Path.{◌≡◌, refl, sym, ◌∙◌}
 use mathlib.Core.List.{List}
 use contract.Lifetimes.{Lfts}
-use denote.Ref.{MutBor, at_last}
+use denote.Ref.{Bor, MutBor, at_last}
 use Rattle.restoring.specs.Restore.{restored_in}
 use Rattle.restoring.proofs.restore_run.Reads as restore_run
 
-module _ (κs : Lfts 2) (array starts : MutBor (List ℕ)) (own u : ℕ) where
+module _ (κs : Lfts 2) (array : MutBor (List ℕ)) (starts : Bor (List ℕ)) (own u : ℕ) where
   -- what the contract allows the array to hold at return
   abbrev pub Allowed : MutBor (List ℕ) → Type 0
   Allowed last = restore_run.Post κs (array, (starts, (own, (u, tt)))) tt (last, (starts, (own, (u, tt))))

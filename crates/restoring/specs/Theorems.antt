@@ -1,5 +1,5 @@
 -- What is proved of a restored unit, each under its sentence of 01: the statements alone. Those over the function's own contract
--- are `two-results` and `some_result` (proofs/TwoResults.antt). Assumes nothing.
+-- are `two_results` and `some_result` (proofs/TwoResults.antt). Assumes nothing.
 use Rattle.std.specs.Prelude.{ℕ, ◌+◌, ◌≤◌, ◌<◌, ◌≡◌, List, ◌⊎◌, get_or, length}
 use Rattle.leaves.specs.Bytes.{sum_at}
 use Rattle.restoring.specs.Restore.{restored_in, OneOf}

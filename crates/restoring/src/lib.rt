@@ -1,5 +1,7 @@
 // One unit of a set from the rest of it (01, rebuild: "becomes the XOR of the rest"). It goes block by block, with 64 bytes in a
 // local, so that a block stays in registers and no buffer of a unit is made.
+#![tactic(auto)]
+
 ghost use Rattle.std.specs.Prelude.{◌≡◌, ◌+◌, ◌<◌, length, get_or};
 ghost use Rattle.leaves.specs.Bytes.{xors, sums};
 ghost use Rattle.restoring.specs.Restore.{rest_of, stored, restored_in, OneOf};

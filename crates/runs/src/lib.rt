@@ -1,5 +1,7 @@
 // Runs of bytes inside one lent array: bytes XORed into one, and the test whether several XOR to zero, which goes block by block,
 // with 128 bytes in a local.
+#![tactic(auto)]
+
 ghost use Rattle.std.specs.Prelude.{◌≡◌, ◌+◌, ◌≤◌, ◌<◌, length};
 ghost use Rattle.leaves.specs.Bytes.{xors, add_at, sums, zero_sum, zero_sum_from, Inside};
 

@@ -1,4 +1,6 @@
 // Where the units of a tuple's sets begin. The design is read once for each region of a tuple, never for a set or a unit.
+#![tactic(auto)]
+
 ghost use Rattle.std.specs.Prelude.{◌+◌, ◌*◌, ◌%◌, ◌≤◌, ◌<◌, ◌≡◌, length};
 ghost use Rattle.geometry.specs.Geometry.{Sound, tuples_of};
 ghost use Rattle.design.specs.Design.{Laid};

@@ -1,4 +1,6 @@
 // The sizes of a checked design and geometry: refusals 2 to 6.
+#![tactic(auto)]
+
 ghost use Rattle.std.specs.Prelude.{◌≡◌};
 ghost use Rattle.refusal.specs.Refusal.{answer, verdict, checked_outcome};
 ghost use Rattle.geometry.specs.Geometry.{Sound};
@@ -8,7 +10,7 @@ use geometry::Geometry;
 use refusal::{Checked, Refusal};
 
 // What is derived from a geometry: parts of a disk (r), tuples (b), disks, units of a disk, user units, sets, bytes of the array.
-#[derive(Drop)]
+#[derive(Clone, Copy)]
 pub struct Sizes {
     pub parts: u32,
     pub tuples: u32,
@@ -19,7 +21,7 @@ pub struct Sizes {
     pub bytes: u64,
 }
 
-#[derive(Drop)]
+#[derive(Clone, Copy)]
 pub enum Sized {
     Sizes(Sizes),
     Refused(Refusal),

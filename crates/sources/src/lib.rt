@@ -1,5 +1,7 @@
 // The triples of one unit: it, and each unit that is read to restore it, stored into the list from a place on. A tuple's regions are
 // in hand, so nothing here reads the design.
+#![tactic(auto)]
+
 ghost use Rattle.std.specs.Prelude.{◌+◌, ◌≤◌, ◌<◌, ◌≡◌, length};
 ghost use Rattle.geometry.specs.Geometry.{Sound};
 ghost use Rattle.region.specs.Columns.{label_column, diagonal_column};

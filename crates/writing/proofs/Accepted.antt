@@ -5,7 +5,7 @@ use mathlib.Core.Bool.{true, false}
 use mathlib.Core.List.{List, [], ◌∷◌, ◌++◌}
 use lib.ListN.{length}
 use contract.Lifetimes.{Lfts}
-use denote.Ref.{Bor}
+use denote.Ref.{Bor, MutBor, as_bor}
 use Rattle.counting.proofs.Bools.{bool_not_both}
 use Rattle.refusal.specs.declared.Checked.{Checked}
 use Rattle.refusal.specs.declared.Checked.TheVariants.{Fine}
@@ -69,8 +69,8 @@ module _ (G : Geometry) (d : List ℕ) (bytes : ℕ) (marks : List ℕ) (m o n :
       let r = ranged G m o n in_range in
       record { laid = h.laid; whole = e ∙ h.whole; user = r.user; inside = r.inside }
 
-module _ (κs : Lfts 4) (G : Geometry) (design array marks : Bor (List ℕ)) (n : UserUnit) (offset : ℕ)
-    (bytes x : Bor (List ℕ)) (p : Allowed κs G design array marks n offset bytes Fine x) where
+module _ (κs : Lfts 4) (G : Geometry) (design : Bor (List ℕ)) (array : MutBor (List ℕ)) (marks : Bor (List ℕ)) (n : UserUnit) (offset : ℕ)
+    (bytes : Bor (List ℕ)) (x : MutBor (List ℕ)) (p : Allowed κs G design array marks n offset bytes Fine x) where
   range : Range G design.now array.now n.0 offset (length bytes.now)
   range =
       fine_range G design.now (length array.now) marks.now n.0 offset (length bytes.now) (sym p.0) array.now refl
@@ -96,7 +96,7 @@ module _ (κs : Lfts 4) (G : Geometry) (design array marks : Bor (List ℕ)) (n 
       (a_write_keeps_a_consistent_array_consistent G design.now array.now n.0 offset bytes.now range c)
 
   -- after a write a read of the range is accepted and gives the written bytes
-  module _ (ρs : Lfts 4) (out : Bor (List ℕ)) (long : length out.now ≡ length bytes.now) where
+  module _ (ρs : Lfts 4) (out : MutBor (List ℕ)) (long : length out.now ≡ length bytes.now) where
     reads : verdict (read_rules G design.now (length x.now) marks.now n.0 offset (length out.now)) ≡ accepted tt
     reads =
         rw (accepted_difference.long, long)
@@ -108,7 +108,7 @@ module _ (κs : Lfts 4) (G : Geometry) (design array marks : Bor (List ℕ)) (n 
         (a_read_after_a_write G design.now array.now n.0 offset bytes.now range)
 
     pub read_after_write :
-        (r : Checked) (y : Bor (List ℕ)) → read.Allowed ρs G design x marks n offset out r y → (r ≡ Fine) × (y.now ≡ bytes.now)
+        (r : Checked) (y : MutBor (List ℕ)) → read.Allowed ρs G design (as_bor x) marks n offset out r y → (r ≡ Fine) × (y.now ≡ bytes.now)
     read_after_write r y q = (
       same_checked r Fine (q.0 ∙ reads),
       q.1 ∙ sym (kept_new _ tt (read_of G design.now x.now n.0 offset (length out.now)) out.now reads) ∙ gives,

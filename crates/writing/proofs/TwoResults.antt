@@ -5,7 +5,7 @@ use mathlib.Core.Path.{◌≡◌, refl, sym, ◌∙◌}
 use mathlib.Core.List.{List}
 use lib.ListN.{length}
 use contract.Lifetimes.{Lfts}
-use denote.Ref.{MutBor, at_last}
+use denote.Ref.{Bor, MutBor, at_last}
 use Rattle.refusal.specs.declared.Refusal.{Refusal}
 use Rattle.refusal.specs.declared.Checked.{Checked}
 use Rattle.refusal.specs.declared.Checked.TheVariants.{Fine, Refused}
@@ -22,7 +22,8 @@ use Rattle.writing.specs.Reasons.{write_rows}
 use Rattle.writing.proofs.Reasons.{write_exact}
 use Rattle.writing.proofs.write.Reads as write
 
-module _ (κs : Lfts 4) (G : Geometry) (design array marks : MutBor (List ℕ)) (n : UserUnit) (offset : ℕ) (bytes : MutBor (List ℕ)) where
+module _ (κs : Lfts 4) (G : Geometry) (design : Bor (List ℕ)) (array : MutBor (List ℕ)) (marks : Bor (List ℕ)) (n : UserUnit) (offset : ℕ)
+    (bytes : Bor (List ℕ)) where
   abbrev answered : Outcome (Unit {0})
   answered = verdict (write_rules G design.now (length array.now) marks.now n.0 offset (length bytes.now))
 

@@ -1,4 +1,6 @@
 // The write (01): a byte range of one user unit, or the refusal.
+#![tactic(auto)]
+
 ghost use Rattle.std.specs.Prelude.{◌≡◌, [], ◌∷◌, length};
 ghost use Rattle.refusal.specs.Refusal.{rule, verdict, kept, checked_outcome};
 ghost use Rattle.fourfold.specs.Writing.{write_of};
