@@ -1,5 +1,7 @@
 // What a host controller written in C calls: numbers and lent slices in, one flat struct of numbers out (crates/answers).
 // include/himzolven.h declares each of these for C.
+#![tactic(auto)]
+
 ghost use Rattle.std.specs.Prelude.{◌≡◌, length};
 ghost use Rattle.refusal.specs.Refusal.{answer, verdict, kept};
 ghost use Rattle.checking.specs.Rules.{design_rules};
@@ -22,8 +24,7 @@ use answers::{Answer, AuditAnswer, CountAnswer, MapAnswer, RoleAnswer, SizesAnsw
 use geometry::{Disk, Geometry, Unit, UserUnit};
 
 // Fills the list with the design of a held v: refusals 1 and 3.
-#[unsafe(no_mangle)]
-pub extern "C" fn himzolven_fill(v: u32, design: &mut [u16]) -> Answer
+pub fn himzolven_fill(v: u32, design: &mut [u16]) -> Answer
     ensures { (result ≡ flat_answer (verdict (fill_rules v (length design.old))))
         × (design.new
         ≡ kept (verdict (fill_rules v (length design.old))) (held_design v) design.old) }
@@ -32,16 +33,14 @@ pub extern "C" fn himzolven_fill(v: u32, design: &mut [u16]) -> Answer
 }
 
 // Checks a design: refusals 2 to 5.
-#[unsafe(no_mangle)]
-pub extern "C" fn himzolven_check(v: u32, k: u32, design: &[u16]) -> Answer
+pub fn himzolven_check(v: u32, k: u32, design: &[u16]) -> Answer
     ensures { result ≡ flat_answer (verdict (design_rules v k design.now)) }
 {
     answers::answer_of(checking::check(v, k, design))
 }
 
 // The sizes of a design and geometry: refusals 2 to 6.
-#[unsafe(no_mangle)]
-pub extern "C" fn himzolven_sizes(v: u32, k: u32, g: u32, u: u32, design: &[u16]) -> SizesAnswer
+pub fn himzolven_sizes(v: u32, k: u32, g: u32, u: u32, design: &[u16]) -> SizesAnswer
     ensures { result
         ≡ flat_sizes (answer (sizes_rules (geometry v k g u) design.now) (sizes_of (geometry v k g u))) }
 {
@@ -49,15 +48,7 @@ pub extern "C" fn himzolven_sizes(v: u32, k: u32, g: u32, u: u32, design: &[u16]
 }
 
 // The four places of a user unit: refusals 2 to 6 and 10.
-#[unsafe(no_mangle)]
-pub extern "C" fn himzolven_map(
-    v: u32,
-    k: u32,
-    g: u32,
-    u: u32,
-    design: &[u16],
-    user_unit: u32,
-) -> MapAnswer
+pub fn himzolven_map(v: u32, k: u32, g: u32, u: u32, design: &[u16], user_unit: u32) -> MapAnswer
     ensures { result
         ≡ flat_map
         (answer (map_rules (geometry v k g u) design.now user_unit)
@@ -67,8 +58,7 @@ pub extern "C" fn himzolven_map(
 }
 
 // The role of a disk's unit: refusals 2 to 6 and 9.
-#[unsafe(no_mangle)]
-pub extern "C" fn himzolven_role(
+pub fn himzolven_role(
     v: u32,
     k: u32,
     g: u32,
@@ -86,8 +76,7 @@ pub extern "C" fn himzolven_role(
 }
 
 // Makes all array bytes and marks 0: refusals 2 to 8.
-#[unsafe(no_mangle)]
-pub extern "C" fn himzolven_format(
+pub fn himzolven_format(
     v: u32,
     k: u32,
     g: u32,
@@ -109,8 +98,7 @@ pub extern "C" fn himzolven_format(
 }
 
 // Reads a byte range of one user unit into the lent buffer: refusals 2 to 8 and 10 to 12.
-#[unsafe(no_mangle)]
-pub extern "C" fn himzolven_read(
+pub fn himzolven_read(
     v: u32,
     k: u32,
     g: u32,
@@ -147,8 +135,7 @@ pub extern "C" fn himzolven_read(
 }
 
 // Writes a byte range of one user unit, and its difference to what was there into three parity units: refusals 2 to 8 and 10 to 12.
-#[unsafe(no_mangle)]
-pub extern "C" fn himzolven_write(
+pub fn himzolven_write(
     v: u32,
     k: u32,
     g: u32,
@@ -185,15 +172,7 @@ pub extern "C" fn himzolven_write(
 }
 
 // How many sets don't XOR to zero, and the lowest of them: refusals 2 to 7.
-#[unsafe(no_mangle)]
-pub extern "C" fn himzolven_audit(
-    v: u32,
-    k: u32,
-    g: u32,
-    u: u32,
-    design: &[u16],
-    array: &[u8],
-) -> AuditAnswer
+pub fn himzolven_audit(v: u32, k: u32, g: u32, u: u32, design: &[u16], array: &[u8]) -> AuditAnswer
     ensures { result
         ≡ flat_audit
         (answer (audit_rules (geometry v k g u) design.now (length array.now))
@@ -203,8 +182,7 @@ pub extern "C" fn himzolven_audit(
 }
 
 // Lists the units that are read to restore one disk, and counts the triples: refusals 2 to 6, 9 and 14.
-#[unsafe(no_mangle)]
-pub extern "C" fn himzolven_plan(
+pub fn himzolven_plan(
     v: u32,
     k: u32,
     g: u32,
@@ -228,8 +206,7 @@ pub extern "C" fn himzolven_plan(
 }
 
 // Gives the lost disks their bytes back, clears the marks and counts the units restored: refusals 2 to 8 and 13.
-#[unsafe(no_mangle)]
-pub extern "C" fn himzolven_rebuild(
+pub fn himzolven_rebuild(
     v: u32,
     k: u32,
     g: u32,
