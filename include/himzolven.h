@@ -181,7 +181,7 @@ himzolven_answer himzolven_check(uint32_t v, uint32_t k, const uint16_t *design,
  *   changes   nothing
  *   lent      `design` to be read
  *   aligned   `design` for uint16_t
- *   stack     8,576 bytes */
+ *   stack     8,448 bytes */
 himzolven_sizes_answer himzolven_sizes(
     uint32_t v, uint32_t k, uint32_t g, uint32_t u, const uint16_t *design, size_t design_length);
 
@@ -212,7 +212,7 @@ himzolven_role_answer himzolven_role(
  *   changes   every byte of `array` and of `marks`
  *   lent      `array` and `marks` to this call alone, `design` to be read
  *   aligned   `design` for uint16_t, the bytes anywhere
- *   stack     8,704 bytes */
+ *   stack     8,576 bytes */
 himzolven_answer himzolven_format(
     uint32_t v, uint32_t k, uint32_t g, uint32_t u, const uint16_t *design, size_t design_length, uint8_t *array,
     size_t array_length, uint8_t *marks, size_t marks_length);
@@ -238,7 +238,7 @@ himzolven_answer himzolven_read(
  *   changes   of `array` the range of four units, on four disks, that himzolven_map names; every other byte of it stays
  *   lent      `array` to this call alone, so `bytes` is no part of it; `design`, `marks` and `bytes` to be read
  *   aligned   `design` for uint16_t, the bytes anywhere
- *   stack     8,832 bytes */
+ *   stack     8,704 bytes */
 himzolven_answer himzolven_write(
     uint32_t v, uint32_t k, uint32_t g, uint32_t u, const uint16_t *design, size_t design_length, uint8_t *array,
     size_t array_length, const uint8_t *marks, size_t marks_length, uint32_t user_unit, uint64_t offset, const uint8_t *bytes,
@@ -251,7 +251,7 @@ himzolven_answer himzolven_write(
  *   changes   nothing
  *   lent      `design` and `array` to be read
  *   aligned   `design` for uint16_t, the bytes anywhere
- *   stack     8,960 bytes */
+ *   stack     9,088 bytes */
 himzolven_audit_answer himzolven_audit(
     uint32_t v, uint32_t k, uint32_t g, uint32_t u, const uint16_t *design, size_t design_length, const uint8_t *array,
     size_t array_length);
@@ -266,7 +266,7 @@ himzolven_audit_answer himzolven_audit(
  *   changes   of `array` the disks whose mark is 1, every byte of `marks`; no byte of a present disk
  *   lent      `array` and `marks` to this call alone, `design` to be read
  *   aligned   `design` for uint16_t, the bytes anywhere
- *   stack     15,488 bytes */
+ *   stack     16,512 bytes */
 himzolven_count_answer himzolven_rebuild(
     uint32_t v, uint32_t k, uint32_t g, uint32_t u, const uint16_t *design, size_t design_length, uint8_t *array,
     size_t array_length, uint8_t *marks, size_t marks_length);

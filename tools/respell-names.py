@@ -29,6 +29,23 @@ APART = {
     ("Rattle.numbering.proofs.SetNumbers", "inner-rest"): "inner_rest_lem",
     ("Rattle.numbering.proofs.SetNumbers", "outer-rest"): "outer_rest_lem",
     ("Rattle.layout.proofs.Scanned", "is-part"): "is_part_lem",
+    ("Rattle.numbering.proofs.Positions", "data-position"): "data_position_lem",
+    ("Rattle.cells.proofs.Sets", "diagonal-column"): "diagonal_column_lem",
+    ("Rattle.auditing.proofs.Sets", "diagonal-zero"): "diagonal_zero_lem",
+    ("Rattle.checking.proofs.Entries", "entry-bad"): "entry_bad_lem",
+    ("Rattle.held.proofs.Difference", "held-design"): "held_design_lem",
+    ("Rattle.auditing.proofs.Sets", "inner-zeros"): "inner_zeros_lem",
+    ("Rattle.cells.proofs.Sets", "label-column"): "label_column_lem",
+    ("Rattle.auditing.proofs.Sets", "label-zero"): "label_zero_lem",
+    ("Rattle.array.proofs.Fits", "mark-high"): "mark_high_lem",
+    ("Rattle.checking.proofs.Entries", "number-bad"): "number_bad_lem",
+    ("Rattle.auditing.proofs.Sets", "outer-zeros"): "outer_zeros_lem",
+    ("Rattle.region.proofs.Turns", "parity-column"): "parity_column_lem",
+    ("Rattle.rebuilding.proofs.Count", "restored-below"): "restored_below_lem",
+    ("Rattle.replaying.proofs.Sides", "sides-of"): "sides_of_lem",
+    ("Rattle.auditing.proofs.Sets", "tuple-found"): "tuple_found_lem",
+    ("Rattle.printing.proofs.Accepted", "unread-text"): "unread_text_lem",
+    ("Rattle.cells.proofs.Roles", "user-cell"): "user_cell_lem",
 }
 USE_AS = re.compile(r"use\s+(Rattle\.[\w.+]+?)(?:\s+as\s+(\S+))?\s*$", re.M)
 
