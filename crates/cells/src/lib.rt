@@ -11,9 +11,10 @@ ghost use Rattle.cells.specs.Ranges.{CellIn};
 
 use geometry::{Geometry, Tuple, UserUnit};
 use numbering::Digits;
+use std::fmt;
 
 // One unit of one region of a tuple: the tuple, the region's position in it, and the unit's row and column there.
-#[derive(Clone, Copy)]
+#[derive(Clone, Copy, Debug, PartialEq, Eq)]
 pub struct Cell {
     pub tuple: Tuple,
     pub position: u32,
@@ -22,11 +23,21 @@ pub struct Cell {
 }
 
 // "The way back answers, for any disk and unit: user unit n; outer parity of (t,i,c); or inner parity of (t,l,j)."
-#[derive(Clone, Copy)]
+#[derive(Clone, Copy, Debug, PartialEq, Eq)]
 pub enum Role {
     User(UserUnit),
     Outer(Tuple, u32, u32),
     Inner(Tuple, u32, u32),
+}
+
+impl fmt::Display for Role {
+    fn fmt<W: fmt::Write>(&self, f: &mut fmt::Formatter<W>) -> fmt::Result {
+        match self {
+            Role::User(n) => write!(f, "user {}", n.0),
+            Role::Outer(t, i, c) => write!(f, "outer {} {i} {c}", t.0),
+            Role::Inner(t, l, j) => write!(f, "inner {} {l} {j}", t.0),
+        }
+    }
 }
 
 // The member at a position of the outer set of label (row,column).

@@ -9,7 +9,8 @@ use native.Mathlib.Numerals.{add-one}
 use native.Mathlib.Omega.{arith}
 use lib.Dec.{ltb, eqb}
 use borrow.Author.Tests.{le-ltb, ltb-true, ltb-false, eq-eqb, ne_eqb}
-use Rattle.counting.specs.Counting.{one_more_if, count_below, lowest_step, lowest, any_below, nth_below}
+use Rattle.std.specs.Prelude.{Option, Some, None}
+use Rattle.counting.specs.Counting.{one_more_if, count_below, lowest_step, lowest, any_below, some_if, first_below, nth_below}
 use Rattle.counting.proofs.Bools.{bool_either, bool_not_both, both_and, and_left_false, and_right_false}
 
 -- ---- the lowest
@@ -134,6 +135,30 @@ none_any f n b =
 
 pub any_same : (f h : ℕ → Bool) (n : ℕ) → ((i : ℕ) → i < n → f i ≡ h i) → any_below f n ≡ any_below h n
 any_same f h n e = ap (λ (x : ℕ). ltb x n) (lowest_same f h n e)
+
+-- ---- the first, if there is one
+
+pub first_is :
+    (f : ℕ → Bool) (n x : ℕ) → x < n → f x ≡ true → ((i : ℕ) → i < x → f i ≡ false) → first_below f n ≡ Some x
+first_is f n x h p b = rw (any_true f n x h p, lowest_is f n x h p b) refl
+
+pub first_none : (f : ℕ → Bool) (n : ℕ) → ((i : ℕ) → i < n → f i ≡ false) → first_below f n ≡ None
+first_none f n b = rw (none_any f n b) refl
+
+-- what an answer says: `Some` names the lowest, `None` says that no number passes
+pub first_some : (f : ℕ → Bool) (n x : ℕ) → first_below f n ≡ Some x → (any_below f n ≡ true) × (x ≡ lowest f n) × (x < n)
+first_some f n x e = go (any_below f n) refl e
+  where
+    go : (t : Bool) → any_below f n ≡ t → some_if t (lowest f n) ≡ Some x → (any_below f n ≡ true) × (x ≡ lowest f n) × (x < n)
+    go true h w = let s : x ≡ lowest f n = cc in (h, s, rw s (ltb-true (lowest f n) n h))
+    go false h w = absurd (cc)
+
+pub first_silent : (f : ℕ → Bool) (n : ℕ) → first_below f n ≡ None → any_below f n ≡ false
+first_silent f n e = go (any_below f n) refl e
+  where
+    go : (t : Bool) → any_below f n ≡ t → some_if t (lowest f n) ≡ None → any_below f n ≡ false
+    go true h w = absurd (cc)
+    go false h w = h
 
 -- ---- how many
 

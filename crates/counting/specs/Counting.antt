@@ -1,6 +1,6 @@
 -- How many numbers below n pass a test, which is the lowest, and which is the p-th, from 0: the words in which 01 names
 -- places, parts and tuples. Assumes nothing.
-use Rattle.std.specs.Prelude.{ℕ, zero, suc, Bool, true, false, ◌&&◌, ltb, eqb}
+use Rattle.std.specs.Prelude.{ℕ, zero, suc, Bool, true, false, ◌&&◌, ltb, eqb, Option, Some, None}
 
 -- one more where the test passes
 abbrev pub one_more_if : Bool → ℕ → ℕ
@@ -26,6 +26,15 @@ lowest f (suc n) = lowest_step (ltb (lowest f n) n) (f n) (lowest f n) n
 -- some i below n passes the test
 abbrev pub any_below : (ℕ → Bool) → ℕ → Bool
 any_below f n = ltb (lowest f n) n
+
+-- a number where the test passes
+abbrev pub some_if : Bool → ℕ → Option ℕ
+some_if true i = Some i
+some_if false i = None
+
+-- the lowest i below n that passes the test, if there is one
+abbrev pub first_below : (ℕ → Bool) → ℕ → Option ℕ
+first_below f n = some_if (any_below f n) (lowest f n)
 
 -- the p-th i below n, counted from 0, that passes the test, and n where fewer do
 abbrev pub nth_below : (ℕ → Bool) → ℕ → ℕ → ℕ

@@ -39,9 +39,6 @@ of_limits v k h =
 pub pair_bound : (v k : ℕ) → Limits v k → v * (v - 1) ≤ 8190
 pair_bound v k h = let p : v - 1 ≤ 90 = omega arith in mul-le-mul h.v_high p
 
-pub tuple_bound : (v k : ℕ) → Limits v k → k * (k - 1) ≤ 90
-tuple_bound v k h = let p : k - 1 ≤ 9 = omega arith in mul-le-mul h.k_high p
-
 pub tuple_pos : (v k : ℕ) → Limits v k → 0 < k * (k - 1)
 tuple_pos v k h = let p : 1 ≤ k - 1 = omega arith in omega (arith, mul-le-mul h.k_low p)
 

@@ -5,26 +5,26 @@ ghost use Rattle.std.specs.Prelude.{◌≡◌};
 ghost use Rattle.geometry.specs.Geometry.{Limits, Sound, beyond_limits, r_of, b_of, whole, no_divisor_below, sizes_allowed, disks_of, parts_of, units_of, tuples_of, user_units_of, tuple_sets_of, sets_of, bytes_of};
 
 // 01: "a disk number never stands where a unit number is meant".
-#[derive(Clone, Copy)]
+#[derive(Clone, Copy, Debug, PartialEq, Eq)]
 pub struct Disk(pub u32);
 
-#[derive(Clone, Copy)]
+#[derive(Clone, Copy, Debug, PartialEq, Eq)]
 pub struct Group(pub u32);
 
-#[derive(Clone, Copy)]
+#[derive(Clone, Copy, Debug, PartialEq, Eq)]
 pub struct Tuple(pub u32);
 
-#[derive(Clone, Copy)]
+#[derive(Clone, Copy, Debug, PartialEq, Eq)]
 pub struct Part(pub u32);
 
-#[derive(Clone, Copy)]
+#[derive(Clone, Copy, Debug, PartialEq, Eq)]
 pub struct Unit(pub u32);
 
-#[derive(Clone, Copy)]
+#[derive(Clone, Copy, Debug, PartialEq, Eq)]
 pub struct UserUnit(pub u32);
 
 // v groups, k of them in a tuple, g disks in a group, u bytes in a unit.
-#[derive(Clone, Copy)]
+#[derive(Clone, Copy, Debug, PartialEq, Eq)]
 pub struct Geometry {
     pub v: u32,
     pub k: u32,
@@ -36,19 +36,9 @@ pub struct Geometry {
 pub fn beyond_limits(v: u32, k: u32) -> bool
     ensures { result ≡ beyond_limits v k }
 {
-    if v < Geometry::V_MIN {
-        return true;
-    }
-    if Geometry::V_MAX < v {
-        return true;
-    }
-    if k < Geometry::K_MIN {
-        return true;
-    }
-    if Geometry::K_MAX < k {
-        return true;
-    }
-    v < k
+    !(Geometry::V_MIN..=Geometry::V_MAX).contains(&v)
+        || !(Geometry::K_MIN..=Geometry::K_MAX).contains(&k)
+        || v < k
 }
 
 // r = (v-1)/(k-1): in how many tuples a group stands.
@@ -72,46 +62,24 @@ pub fn is_whole(v: u32, k: u32) -> bool
     requires { Limits v k }
     ensures { result ≡ whole v k }
 {
-    if r_of(v, k) * (k - 1) != v - 1 {
-        return false;
-    }
-    b_of(v, k) * (k * (k - 1)) == v * (v - 1)
+    r_of(v, k) * (k - 1) == v - 1 && b_of(v, k) * (k * (k - 1)) == v * (v - 1)
 }
 
 // No e with 2 ≤ e < n divides g.
 pub fn no_divisor_below(n: u32, g: u32) -> bool
     ensures { result ≡ no_divisor_below n g }
 {
-    let mut e: u32 = 2;
-    while e < n {
-        if g % e == 0 {
-            return false;
-        }
-        e += 1;
-    }
-    true
+    (2..n).all(|e| g % e != 0)
 }
 
 // "g is a prime from 2 to 13 and at least k. A unit has u bytes, 1 to 4,096" (01); else refusal 6.
 pub fn sizes_allowed(k: u32, g: u32, u: u32) -> bool
     ensures { result ≡ sizes_allowed k g u }
 {
-    if g < Geometry::G_MIN {
-        return false;
-    }
-    if Geometry::G_MAX < g {
-        return false;
-    }
-    if g < k {
-        return false;
-    }
-    if u < Geometry::U_MIN {
-        return false;
-    }
-    if Geometry::U_MAX < u {
-        return false;
-    }
-    no_divisor_below(g, g)
+    (Geometry::G_MIN..=Geometry::G_MAX).contains(&g)
+        && k <= g
+        && (Geometry::U_MIN..=Geometry::U_MAX).contains(&u)
+        && no_divisor_below(g, g)
 }
 
 // "The limits and the derived sizes belong to the geometry itself and are asked of it by name" (01).
@@ -204,6 +172,6 @@ impl Geometry {
         requires { Sound self }
         ensures { result ≡ bytes_of self }
     {
-        self.disks() as u64 * self.r() as u64 * self.g as u64 * self.u as u64
+        u64::from(self.disks()) * u64::from(self.r()) * u64::from(self.g) * u64::from(self.u)
     }
 }

@@ -11,7 +11,7 @@ ghost use Rattle.numbering.specs.Ranges.{DigitsIn, Fitting};
 use geometry::{Geometry, Tuple, UserUnit};
 
 // User unit n is label (row,column) in the data region of this number of the tuple.
-#[derive(Clone, Copy)]
+#[derive(Clone, Copy, Debug, PartialEq, Eq)]
 pub struct Digits {
     pub tuple: Tuple,
     pub region: u32,
@@ -34,9 +34,10 @@ pub fn data_position(geometry: Geometry, tuple: Tuple, region: u32) -> u32
     ensures { (result ≡ data_position geometry tuple.0 region) × (result < geometry.k) }
 {
     if region < parity_position(geometry, tuple) {
-        return region;
+        region
+    } else {
+        region + 1
     }
-    region + 1
 }
 
 // The number of the data region at a position other than the parity's.
@@ -47,9 +48,10 @@ pub fn data_number(geometry: Geometry, tuple: Tuple, position: u32) -> u32
     ensures { (result ≡ data_number geometry tuple.0 position) × (result < geometry.k - 1) }
 {
     if position < parity_position(geometry, tuple) {
-        return position;
+        position
+    } else {
+        position - 1
     }
-    position - 1
 }
 
 // The digits of a user unit's number.

@@ -2,7 +2,7 @@
 // its labels, its diagonals and their parities stand. Plain numbers: a region knows neither its tuple nor its disks.
 #![tactic(auto)]
 
-ghost use Rattle.std.specs.Prelude.{◌≤◌, ◌<◌, ◌≡◌};
+ghost use Rattle.std.specs.Prelude.{◌+◌, ◌%◌, ◌≤◌, ◌<◌, ◌≡◌};
 ghost use Rattle.region.specs.Columns.{label_column, label_at, diagonal_column, diagonal_at, parity_column, Small};
 
 // "label (i,c) stands in the region at position l in column (c + i·l) mod g"
@@ -46,4 +46,13 @@ pub fn parity_column(g: u32, j: u32) -> u32
     ensures { (result ≡ parity_column g j) × (result < g) }
 {
     g - 1 - j
+}
+
+// A column moved right by at most g, with no division.
+pub fn turned(g: u32, x: u32, by: u32) -> u32
+    requires { (x < g) × (by ≤ g) × (g ≤ 13) }
+    ensures { (result ≡ (x + by) % g) × (result < g) }
+{
+    let moved = x + by;
+    if moved < g { moved } else { moved - g }
 }

@@ -6,5 +6,5 @@ use Rattle.numbering.proofs.data_number.Goals as goal
 pub returns-then-position-parity_position : goal.returns-then-position-parity_position
 returns-then-position-parity_position c = (number_below _ _ _ (omega (arith, c.parity_position.ensures.0)), omega arith)
 
-pub returns : goal.returns
-returns c = (number_above _ _ _ (omega (arith, c.parity_position.ensures.0)), omega arith)
+pub returns-else-position-parity_position : goal.returns-else-position-parity_position
+returns-else-position-parity_position c = (number_above _ _ _ (omega (arith, c.parity_position.ensures.0)), omega arith)

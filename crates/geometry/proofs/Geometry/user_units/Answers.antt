@@ -1,12 +1,8 @@
 -- `geometry::Geometry::user_units` meets its contract. Assumes nothing.
 use native.Mathlib.Omega.{arith}
 use Rattle.geometry.specs.Geometry.{user_units_of}
-use Rattle.geometry.proofs.Laws.{regions_bound, rows_bound, user_units_bound}
+use Rattle.geometry.proofs.Laws.{rows_bound, user_units_bound}
 use Rattle.geometry.proofs.Geometry.user_units.Goals as goal
-
-pub overflow_mul-result : goal.overflow_mul-result
-overflow_mul-result c =
-    rw c.b.ensures (omega (arith, regions_bound c.args.self c.requires))
 
 pub overflow_mul-result-2 : goal.overflow_mul-result-2
 overflow_mul-result-2 c =
