@@ -1,15 +1,17 @@
 -- Rows that ascend, and what 4 asks of a row. Assumes nothing.
-use Prim.Native.Nat.{ℕ, suc, ◌+◌, ◌-◌, ◌*◌, ◌≤◌, ◌<◌}
+use Prim.Native.Nat.{ℕ, ◌+◌, ◌-◌, ◌≤◌, ◌<◌}
 use mathlib.Core.Path.{◌≡◌, sym, ap, ◌∙◌}
-use mathlib.Core.Bool.{true, false}
+use mathlib.Core.Bool.{Bool, true, false}
 use mathlib.Core.Logic.{inl, inr}
 use mathlib.Core.List.{List}
 use native.Mathlib.Decide.{dec_lt}
-use native.Mathlib.Nat.{mul-le-mul_right, suc-mul}
 use native.Mathlib.Omega.{arith}
-use lib.Dec.{leb}
+use lib.Dec.{leb, ltb}
 use lib.ListN.{length, get_or}
-use borrow.Author.Tests.{le-leb, lt-leb}
+use borrow.Author.Tests.{le-leb, lt-leb, ltb-true, ltb-false}
+use denote.Ref.{Bor}
+use Rattle.std.specs.Prelude.{Option, Some, None, MatchOption}
+use Rattle.std.specs.List.{HoldsAt, IsAllAdjacentAnswer}
 use Rattle.counting.proofs.Ascending.{ascends_le}
 use Rattle.counting.proofs.Bools.{bool_not_both}
 use Rattle.design.specs.Design.{group_at}
@@ -17,21 +19,10 @@ use Rattle.checking.specs.Rules.{row_bad}
 use Rattle.checking.specs.Reasons.{BadRow}
 use Rattle.refusal.proofs.Firsts.{never_true}
 use Rattle.checking.proofs.Words.{row_words, words_row}
-use Rattle.checking.specs.Table.{Rows}
 
 -- the first n numbers ascend
 pub record Rising (f : ℕ → ℕ) (n : ℕ) : Type 0 where
   pub step : (l : ℕ) → l + 1 < n → f l < f (l + 1)
-
-rising_more : (f : ℕ → ℕ) (l : ℕ) → 1 ≤ l → Rising f l → f (l - 1) < f l → Rising f (l + 1)
-rising_more f l one r h = record { step = λ (j : ℕ) (b : j + 1 < l + 1). go j b (dec_lt (j + 1) l) }
-  where
-    go : (j : ℕ) → j + 1 < l + 1 → Dec (j + 1 < l) → f j < f (j + 1)
-    go j b (yes s) = r.step j s
-    go j b (no s) =
-        let e : j + 1 ≡ l = omega arith in
-        let p : j ≡ l - 1 = omega arith in
-        rw (e, p) h
 
 module _ (v k : ℕ) (d : List ℕ) (t : ℕ) where
   -- in a row that ascends the last group decides
@@ -67,57 +58,50 @@ module _ (v k : ℕ) (d : List ℕ) (t : ℕ) where
       go (yes p) = p
       go (no p) = bool_not_both (row_bad v k d t) (words_row v k d t (inl (l, q, omega arith))) h
 
--- ---- the scan of one row: l groups are passed, and `last` is the last of them
+-- ---- a row that is a list of its own
 
-pub record Passed (k : ℕ) (d : List ℕ) (t last l : ℕ) : Type 0 where
-  pub low : 1 ≤ l
-  pub most : l ≤ k
-  pub is : last ≡ group_at k d t (l - 1)
-  pub rising : Rising (group_at k d t) l
-
-pub passed_first : (k : ℕ) (d : List ℕ) (t : ℕ) → 1 ≤ k → Passed k d t (get_or d (t * k) 0) 1
+pub row_group : (k : ℕ) (row : List ℕ) (l : ℕ) → group_at k row 0 l ≡ get_or row l 0
 unfolding group_at
-passed_first k d t h =
-    record {
-      low = omega arith;
-      most = h;
-      is = ap (λ (x : ℕ). get_or d x 0) (omega arith);
-      rising = record { step = λ (l : ℕ) (q : l + 1 < 1). absurd (omega arith) };
-    }
+row_group k row l = ap (λ (x : ℕ). get_or row x 0) (omega arith)
 
-pub passed_next :
-    (k : ℕ) (d : List ℕ) (t last l : ℕ) → Passed k d t last l → l < k → last < get_or d (t * k + l) 0
-    → Passed k d t (get_or d (t * k + l) 0) (l + 1)
-unfolding group_at
-passed_next k d t last l p h q =
-    record {
-      low = omega arith;
-      most = omega arith;
-      is = ap (group_at k d t) (omega arith);
-      rising = rising_more (group_at k d t) l p.low p.rising (rw p.is at q);
-    }
+-- what the test of each group and the next answers
+abbrev pub AscendsAnswer : List ℕ → Bool → Type 0
+AscendsAnswer row r = IsAllAdjacentAnswer (λ x y b. b ≡ ltb x y) row r
 
 -- a row that falls, or stands still, is bad
-pub passed_falls :
-    (v k : ℕ) (d : List ℕ) (t last l : ℕ) → Passed k d t last l → l < k → get_or d (t * k + l) 0 ≤ last
-    → row_bad v k d t ≡ true
-unfolding group_at
-passed_falls v k d t last l p h q =
-    let one : 1 ≤ l = p.low in
-    let e : l - 1 + 1 ≡ l = omega arith in
-    let w : group_at k d t l ≤ group_at k d t (l - 1) = rw p.is at q in
-    words_row v k d t (inr (l - 1, omega arith, rw e w))
+pub falls_bad : (v : ℕ) (row : List ℕ) (r : Bool) → AscendsAnswer row r → r ≡ false → row_bad v (length row) row 0 ≡ true
+falls_bad v row true w e = absurd (cc)
+falls_bad v row false w e =
+    let h : get_or row (w.0 + 1) 0 ≤ get_or row w.0 0 = ltb-false (get_or row w.0 0) (get_or row (w.0 + 1) 0) (sym (w.2 0)) in
+    words_row v (length row) row 0
+    (inr (w.0, w.1, rw (row_group (length row) row (w.0 + 1), row_group (length row) row w.0) h))
 
-pub passed_all : (v k : ℕ) (d : List ℕ) (t last l : ℕ) → Passed k d t last l → k ≤ l → row_bad v k d t ≡ leb v last
-passed_all v k d t last l p h =
-    let one : 1 ≤ l = p.low in
-    let most : l ≤ k = p.most in
-    let e : l ≡ k = omega arith in
-    rw p.is (row_rises v k d t (l - 1) (omega arith) (rw e at p.rising))
+answer_rises : (row : List ℕ) (r : Bool) → AscendsAnswer row r → r ≡ true → Rising (group_at (length row) row 0) (length row)
+answer_rises row true w e =
+    record {
+      step =
+          λ (l : ℕ) (q : l + 1 < length row).
+          rw (row_group (length row) row l, row_group (length row) row (l + 1))
+          (ltb-true (get_or row l 0) (get_or row (l + 1) 0) (sym (w l 0 q)));
+    }
+answer_rises row false w e = absurd (cc)
 
--- row t lies whole within the list
-pub row_within : {v k b : ℕ} {d : List ℕ} {t : ℕ} → Rows v k b d → t < b → (2 ≤ k) × (t * k + k ≤ length d)
-row_within {v} {k} {b} {d} {t} r h =
-    let m : suc t * k ≤ b * k = mul-le-mul_right k h in
-    let s : suc t * k ≡ t * k + k = suc-mul t k in
-    omega (arith, r.size, r.limits)
+-- a row of no groups is not
+none_bad : (v : ℕ) (row : List ℕ) → length row ≤ 0 → row_bad v (length row) row 0 ≡ false
+none_bad v row h =
+    never_true (row_bad v (length row) row 0) (λ (e : row_bad v (length row) row 0 ≡ true). go (row_words v (length row) row 0 e))
+  where
+    go : BadRow v (length row) row 0 → ⊥
+    go (inl w) = let q : w.0 < length row = w.1 in omega arith
+    go (inr w) = let q : w.0 + 1 < length row = w.1 in omega arith
+
+-- in a row that ascends the last group, if there is one, decides
+pub last_decides :
+    (v : ℕ) (row : List ℕ) (sorted : Bool) (high : Option (Bor ℕ)) (r : Bool) → AscendsAnswer row sorted → sorted ≡ true
+    → MatchOption high (length row ≤ 0) (λ x. (0 < length row) × HoldsAt (λ y. x.now ≡ y) row (length row - 1))
+    → MatchOption high (r ≡ false) (λ x. r ≡ leb v x.now) → r ≡ row_bad v (length row) row 0
+last_decides v row sorted None r w s last e = e ∙ sym (none_bad v row last)
+last_decides v row sorted (Some x) r w s last e =
+    e
+    ∙ ap (leb v) (last.1 0 ∙ sym (row_group (length row) row (length row - 1)))
+    ∙ sym (row_rises v (length row) row 0 (length row - 1) (omega arith) (answer_rises row sorted w s))

@@ -1,23 +1,24 @@
 -- Entries of the pair table: where they lie, and which are bad. Assumes nothing.
 use Prim.Native.Nat.{ℕ, ◌+◌, ◌-◌, ◌*◌, ◌/◌, ◌%◌, ◌≤◌, ◌<◌, min}
-use mathlib.Core.Path.{◌≡◌, sym, ◌∙◌}
-use mathlib.Core.Bool.{true, false, not}
+use mathlib.Core.Path.{◌≡◌, sym, ap₂, ◌∙◌}
+use mathlib.Core.Bool.{Bool, true, false, not}
 use mathlib.Core.Logic.{◌⊎◌, inl, inr}
 use mathlib.Core.List.{List}
-use native.Mathlib.Nat.{mul-le-mul_right, suc-mul, mod-lt}
+use native.Mathlib.Decide.{dec_lt}
+use native.Mathlib.Nat.{suc-mul, mod-lt}
 use native.Mathlib.Numerals.{add-one}
 use native.Mathlib.Omega.{arith}
 use lib.Arith.{digits_lt, digits_div, digits_mod}
 use lib.Dec.{ltb, eqb}
 use lib.ListN.{get_or}
-use borrow.Author.Tests.{ltb-true, ltb-false, lt-ltb, le-ltb, eq-eqb, ne_eqb, eqb-true, eqb-false}
-use Rattle.counting.specs.Counting.{lowest}
+use borrow.Author.Tests.{ltb-true, lt-ltb, le-ltb, eq-eqb, ne_eqb, eqb-true, eqb-false}
+use Rattle.std.specs.Prelude.{Option, Some, None, MatchOption}
+use Rattle.counting.specs.Counting.{some_if, first_below}
 use Rattle.counting.proofs.Bools.{bool_either, both_and, and_left_false, and_right_false, not_is_true, not_is_false}
-use Rattle.counting.proofs.Laws.{lowest_le, lowest_holds, lowest_before, lowest_same}
+use Rattle.counting.proofs.Laws.{lowest_holds, lowest_before, lowest_same, any_none, any_same, first_is, first_none, first_some, first_silent}
 use Rattle.geometry.specs.Geometry.{b_of}
 use Rattle.checking.specs.Rules.{rows_with, pair_bad}
 use Rattle.checking.specs.Table.{Counted, entry_bad, number_bad}
-use Rattle.checking.proofs.Scan.{Scanned, scanned_found}
 
 -- ---- bad entries
 
@@ -38,57 +39,70 @@ unfolding entry_bad
 entry_no_pair v table a c h =
     and_left_false (ltb a c) (not (eqb (get_or table (a * v + c) 0) 1)) (le-ltb a c h)
 
--- a scan of the pairs a<c begins behind a
-pub scanned_above : (v : ℕ) (table : List ℕ) (a : ℕ) → a < v → Scanned (entry_bad v table a) v (a + 1)
-scanned_above v table a h =
-    record { most = omega arith; before = λ (j : ℕ) (q : j < a + 1). entry_no_pair v table a j (omega arith) }
+-- what a search for a bad entry finds among the c behind a
+pub record Searched (v : ℕ) (table : List ℕ) (a : ℕ) (r : Option ℕ) : Type 0 where
+  pub line : a < v
+  pub found :
+      MatchOption r ((c : ℕ) → a + 1 ≤ c → c < v → get_or table (a * v + c) 0 ≡ 1)
+      (λ c. (a + 1 ≤ c) × (c < v) × (get_or table (a * v + c) 0 ≡ 1 → ⊥) × ((j : ℕ) → a + 1 ≤ j → j < c → get_or table (a * v + j) 0 ≡ 1))
+
+pub first_entry : (v : ℕ) (table : List ℕ) (a : ℕ) (r : Option ℕ) → Searched v table a r → r ≡ first_below (entry_bad v table a) v
+first_entry v table a None s = sym (first_none (entry_bad v table a) v (λ (j : ℕ) (q : j < v). go j q (dec_lt a j)))
+  where
+    go : (j : ℕ) → j < v → Dec (a < j) → entry_bad v table a j ≡ false
+    go j q (yes h) = entry_good v table a j (s.found j (omega arith) q)
+    go j q (no h) = entry_no_pair v table a j (omega arith)
+first_entry v table a (Some c) s =
+    let w = s.found in
+    sym
+    (first_is (entry_bad v table a) v c w.1 (entry_bad_lem v table a c (omega arith) w.2)
+    (λ (j : ℕ) (q : j < c). go j q (dec_lt a j)))
+  where
+    go : (j : ℕ) → j < c → Dec (a < j) → entry_bad v table a j ≡ false
+    go j q (yes h) = entry_good v table a j (s.found.3 j (omega arith) q)
+    go j q (no h) = entry_no_pair v table a j (omega arith)
 
 -- ---- all pairs: lines of v numbers, a·v to a·v+v-1
 
 number_bad_lem : (v : ℕ) (table : List ℕ) (a c : ℕ) → c < v → number_bad v table (a * v + c) ≡ entry_bad v table a c
 number_bad_lem v table a c h = rw (digits_div a h, digits_mod a h)
 
--- a scan of all pairs goes on by c numbers of line a
-scanned_line :
-    (v : ℕ) (table : List ℕ) (a c : ℕ)
-    → Scanned (number_bad v table) (v * v) (a * v) → a < v → c ≤ lowest (entry_bad v table a) v
-    → Scanned (number_bad v table) (v * v) (a * v + c)
-scanned_line v table a c s h q =
-    record { most = most; before = λ (m : ℕ) (p : m < a * v + c). go m p (bool_either (ltb m (a * v))) }
-  where
-    le : c ≤ v
-    le = omega (arith, lowest_le (entry_bad v table a) v)
+-- no number of the first `a` lines is bad
+pub record LinesGood (v : ℕ) (table : List ℕ) (a : ℕ) : Type 0 where
+  pub before : (m : ℕ) → m < a * v → number_bad v table m ≡ false
 
-    most : a * v + c ≤ v * v
-    most = omega (arith, mul-le-mul_right v h, suc-mul a v, le)
+module _ (v : ℕ) (table : List ℕ) (a : ℕ) (g : LinesGood v table a) where
+  -- nor one of the first c numbers of the next line
+  line_good : (c : ℕ) → c ≤ v → ((j : ℕ) → j < c → entry_bad v table a j ≡ false) → (m : ℕ) → m < a * v + c → number_bad v table m ≡ false
+  line_good c q line m p = go (dec_lt m (a * v))
+    where
+      go : Dec (m < a * v) → number_bad v table m ≡ false
+      go (yes h) = g.before m h
+      go (no h) =
+          let e : m ≡ a * v + (m - a * v) = omega arith in
+          let j : m - a * v < c = omega arith in
+          rw e (number_bad_lem v table a (m - a * v) (omega arith) ∙ line (m - a * v) j)
 
-    go : (m : ℕ) → m < a * v + c → (ltb m (a * v) ≡ true) ⊎ (ltb m (a * v) ≡ false) → number_bad v table m ≡ false
-    go m p (inl t) = s.before m (ltb-true m (a * v) t)
-    go m p (inr t) =
-        let low : a * v ≤ m = ltb-false m (a * v) t in
-        let e : m ≡ a * v + (m - a * v) = omega arith in
-        let j : m - a * v < c = omega arith in
-        let b : entry_bad v table a (m - a * v) ≡ false = lowest_before (entry_bad v table a) v (m - a * v) (omega arith) in
-        rw e (number_bad_lem v table a (m - a * v) (omega (arith, le)) ∙ b)
+  pub lines_next : first_below (entry_bad v table a) v ≡ None → LinesGood v table (a + 1)
+  lines_next e =
+      let n : (a + 1) * v ≡ a * v + v = rw (add-one a) (suc-mul a v) in
+      record { before = rw n (line_good v (omega arith) (any_none (entry_bad v table a) v (first_silent (entry_bad v table a) v e))) }
 
-pub scanned_lines :
-    (v : ℕ) (table : List ℕ) (a c : ℕ)
-    → Scanned (number_bad v table) (v * v) (a * v) → a < v → c ≡ lowest (entry_bad v table a) v → v ≤ c
-    → Scanned (number_bad v table) (v * v) ((a + 1) * v)
-scanned_lines v table a c s h e q =
-    let n : (a + 1) * v ≡ a * v + v = rw (add-one a) (suc-mul a v) in
-    rw n (scanned_line v table a v s h (omega arith))
+  pub line_found : (c : ℕ) → a < v → first_below (entry_bad v table a) v ≡ Some c → Some (a * v + c) ≡ first_below (number_bad v table) (v * v)
+  line_found c h e =
+      let w = first_some (entry_bad v table a) v c e in
+      let bad : entry_bad v table a c ≡ true = rw w.1 (lowest_holds (entry_bad v table a) v (rw w.1 at w.2)) in
+      sym
+      (first_is (number_bad v table) (v * v) (a * v + c) (digits_lt h w.2) (number_bad_lem v table a c w.2 ∙ bad)
+      (line_good c (omega arith) (λ (j : ℕ) (q : j < c). lowest_before (entry_bad v table a) v j (rw (← w.1) q))))
 
-pub line_found :
-    (v : ℕ) (table : List ℕ) (a c : ℕ)
-    → Scanned (number_bad v table) (v * v) (a * v) → a < v → c ≡ lowest (entry_bad v table a) v → c < v
-    → a * v + c ≡ lowest (number_bad v table) (v * v)
-line_found v table a c s h e q =
-    let bad : entry_bad v table a c ≡ true = rw e (lowest_holds (entry_bad v table a) v (rw e at q)) in
-    scanned_found (number_bad v table) (v * v) (a * v + c)
-    (scanned_line v table a c s h (omega arith)) (digits_lt h q) (number_bad_lem v table a c q ∙ bad)
+pub lines_all : (v : ℕ) (table : List ℕ) → LinesGood v table v → None ≡ first_below (number_bad v table) (v * v)
+lines_all v table g = sym (first_none (number_bad v table) (v * v) g.before)
 
 -- ---- the table after all rows
+
+first_same : (f h : ℕ → Bool) (n : ℕ) → ((i : ℕ) → i < n → f i ≡ h i) → first_below f n ≡ first_below h n
+first_same f h n e = ap₂ some_if (any_same f h n e) (lowest_same f h n e)
 
 min_one : (n : ℕ) → eqb (min n 2) 1 ≡ eqb n 1
 min_one n = go (bool_either (eqb n 1))
@@ -100,15 +114,15 @@ min_one n = go (bool_either (eqb n 1))
 
 -- the table's bad entries are the bad pairs
 pub counted_pairs :
-    (v k b : ℕ) (d table : List ℕ) → 1 ≤ v → Counted v k b d table → b ≡ b_of v k
-    → lowest (number_bad v table) (v * v) ≡ lowest (pair_bad v k d) (v * v)
+    (v k : ℕ) (d table : List ℕ) → 1 ≤ v → Counted v k (b_of v k) d table
+    → first_below (number_bad v table) (v * v) ≡ first_below (pair_bad v k d) (v * v)
 unfolding pair_bad entry_bad
-counted_pairs v k b d table h r e =
-    lowest_same (number_bad v table) (pair_bad v k d) (v * v)
+counted_pairs v k d table h r =
+    first_same (number_bad v table) (pair_bad v k d) (v * v)
     (λ (m : ℕ) (q : m < v * v). go m (bool_either (ltb (m / v) (m % v))))
   where
     go : (m : ℕ) → (ltb (m / v) (m % v) ≡ true) ⊎ (ltb (m / v) (m % v) ≡ false) → number_bad v table m ≡ pair_bad v k d m
     go m (inl p) =
-        let t : get_or table (m / v * v + m % v) 0 ≡ min (rows_with k b d (m / v) (m % v)) 2 = r.each (m / v) (m % v) (ltb-true (m / v) (m % v) p) (mod-lt m h) in
-        rw (t, min_one, e)
+        let t : get_or table (m / v * v + m % v) 0 ≡ min (rows_with k (b_of v k) d (m / v) (m % v)) 2 = r.each (m / v) (m % v) (ltb-true (m / v) (m % v) p) (mod-lt m h) in
+        rw (t, min_one)
     go m (inr p) = rw p

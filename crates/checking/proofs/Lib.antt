@@ -1,5 +1,6 @@
 pub mod Accepted
 pub mod Ascending
+pub mod Chunks
 pub mod Entries
 pub mod Exact
 pub mod Marks

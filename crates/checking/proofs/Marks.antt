@@ -1,6 +1,6 @@
 -- Counting pairs in the table: one pair, the pairs of a row, all rows. Assumes nothing.
 use Prim.Native.Nat.{ℕ, ◌+◌, ◌-◌, ◌*◌, ◌/◌, ◌%◌, ◌≤◌, ◌<◌, min}
-use mathlib.Core.Path.{◌≡◌, refl, sym, ap, ◌∙◌}
+use mathlib.Core.Path.{◌≡◌, refl, sym, ap, ap₂, ◌∙◌}
 use mathlib.Core.Bool.{Bool, true, false, ◌&&◌}
 use mathlib.Core.Logic.{◌⊎◌, inl, inr}
 use mathlib.Core.List.{List}
@@ -20,7 +20,8 @@ use Rattle.design.specs.Design.{group_at, names}
 use Rattle.checking.specs.Rules.{rows_with}
 use Rattle.design.proofs.Rows.{holds}
 use Rattle.checking.specs.Table.{pair_of, pair_from, marked_if, Marked, Counted, GoodRow, GoodRows}
-use Rattle.checking.proofs.Ascending.{Rising, good_rising, good_below, row_within}
+use Rattle.checking.proofs.Ascending.{Rising, good_rising, good_below, row_group}
+use Rattle.checking.proofs.Chunks.{row_below, IsRow, row_same_bad, row_same_names}
 
 -- ---- one pair
 
@@ -130,14 +131,6 @@ among_joined k d t m z r h = go (bool_either (eqb (group_at k d t m) z)) (bool_e
               ∙ sym w,
         )
 
--- the pairs of the group at position l with those behind it up to position m
-pub record MarkedTo (v k : ℕ) (d : List ℕ) (t l base m : ℕ) (old new : List ℕ) : Type 0 where
-  pub row : GoodRow v k t d old
-  pub line : base ≡ group_at k d t l * v
-  pub low : l < m
-  pub most : m ≤ k
-  pub marks : Marked v (λ (a c : ℕ). eqb (group_at k d t l) a && among k d t m c) old new
-
 -- no group behind position l is among the first l + 1
 none_behind :
     (k : ℕ) (d : List ℕ) (t l : ℕ) → Rising (group_at k d t) k → l < k → (a c : ℕ) → a < c
@@ -156,70 +149,77 @@ none_behind k d t l r h a c p = go (bool_either (eqb (group_at k d t l) a))
             let y : group_at k d t j ≤ group_at k d t l = ascends_le (group_at k d t) k r.step j l (omega arith) h in
             ne_eqb (group_at k d t j) c (λ (i : group_at k d t j ≡ c). omega arith)
 
-pub marked_to_none :
-    (v k : ℕ) (d : List ℕ) (t l x : ℕ) (table : List ℕ) → GoodRow v k t d table → l < k → x ≡ group_at k d t l
-    → MarkedTo v k d t l (x * v) (l + 1) table table
-marked_to_none v k d t l x table g h e =
-    record {
-      row = g;
-      line = rw e;
-      low = omega arith;
-      most = omega arith;
-      marks = mark_none v _ table (none_behind k d t l (good_rising v k d t g.good) h);
-    }
+-- the same of a row that is a list of its own: the group at position l, and whether group z is among the first m
+abbrev pub group : List ℕ → ℕ → ℕ
+group row l = group_at (length row) row 0 l
 
--- where the pairs of the group at position l begin
-pub line_within :
-    (v k : ℕ) (d : List ℕ) (t l x : ℕ) (table : List ℕ) → GoodRow v k t d table → l < k → x ≡ group_at k d t l
-    → x * v < length table
-line_within v k d t l x table g h e =
-    let y : x < v = rw e (good_below v k d t l g.good h) in
-    omega (arith, digits_lt y y, g.room)
+abbrev seen : List ℕ → ℕ → ℕ → Bool
+seen row m z = among (length row) row 0 m z
 
-pub marked_to_within :
-    (v k : ℕ) (d : List ℕ) (t l base m y : ℕ) (old new : List ℕ) → MarkedTo v k d t l base m old new
-    → m < k → y ≡ group_at k d t m → base + y < length new
-marked_to_within v k d t l base m y old new r h e =
-    let g = r.row in
-    let low : l < m = r.low in
-    let line = r.line in
-    let size = r.marks.size in
-    let room : v * v ≤ length old = g.room in
-    let x : group_at k d t l < v = good_below v k d t l g.good (omega arith) in
-    let z : group_at k d t m < v = good_below v k d t m g.good h in
-    omega (arith, digits_lt x z)
+-- the pairs of the group at position l with those behind it up to position m
+pub record MarkedTo (v : ℕ) (row : List ℕ) (l base m : ℕ) (old new : List ℕ) : Type 0 where
+  pub good : GoodRow v row old
+  pub line : base ≡ group row l * v
+  pub low : l < m
+  pub most : m ≤ length row
+  pub marks : Marked v (λ (a c : ℕ). eqb (group row l) a && seen row m c) old new
 
-pub marked_to_next :
-    (v k : ℕ) (d : List ℕ) (t l base m y n : ℕ) (old new : List ℕ)
-    → MarkedTo v k d t l base m old new → m < k → y ≡ group_at k d t m → n ≡ min (get_or new (base + y) 0 + 1) 2
-    → MarkedTo v k d t l base (m + 1) old (set new (base + y) n)
-marked_to_next v k d t l base m y n old new r h e i =
-    record {
-      row = r.row;
-      line = r.line;
-      low = let q : l < m = r.low in omega arith;
-      most = omega arith;
-      marks = rw (r.line, e) (mark_then v _ _ _ old new _ r.marks one joined);
-    }
-  where
-    one : Marked v (λ (a c : ℕ). eqb (group_at k d t l) a && eqb (group_at k d t m) c) new (set new (group_at k d t l * v + group_at k d t m) n)
-    one =
-        mark_one v new (group_at k d t l) (group_at k d t m) n (good_below v k d t m r.row.good h)
-        (rw (r.line, e) at (marked_to_within v k d t l base m y old new r h e))
-        (rw (r.line, e) at i)
+module _ (v : ℕ) (row : List ℕ) (l : ℕ) where
+  pub marked_to_none :
+      (x : ℕ) (table : List ℕ) → GoodRow v row table → l < length row → x ≡ get_or row l 0
+      → MarkedTo v row l (x * v) (l + 1) table table
+  marked_to_none x table g h e =
+      record {
+        good = g;
+        line = rw (row_group (length row) row l, e);
+        low = omega arith;
+        most = omega arith;
+        marks = mark_none v _ table (none_behind (length row) row 0 l (good_rising v (length row) row 0 g.good) h);
+      }
 
-    joined : (a c : ℕ) → Joined (eqb (group_at k d t l) a && among k d t m c) (eqb (group_at k d t l) a && eqb (group_at k d t m) c) (eqb (group_at k d t l) a && among k d t (m + 1) c)
-    joined a c =
-        joined_left (eqb (group_at k d t l) a) _ _ _ (among_joined k d t m c (good_rising v k d t r.row.good) h)
+  module _ (base m y : ℕ) (old new : List ℕ) (r : MarkedTo v row l base m old new) (h : m < length row) (e : y ≡ get_or row m 0) where
+    is_group : y ≡ group row m
+    is_group = e ∙ sym (row_group (length row) row m)
 
-pub marked_to_all :
-    (v k : ℕ) (d : List ℕ) (t l base m : ℕ) (old new : List ℕ) → MarkedTo v k d t l base m old new → k ≤ m
-    → Marked v (pair_from k d t l) old new
-unfolding names
-marked_to_all v k d t l base m old new r h =
-    let most : m ≤ k = r.most in
-    let e : m ≡ k = omega arith in
-    rw e at r.marks
+    pub marked_to_within : base + y < length new
+    marked_to_within =
+        let g = r.good in
+        let low : l < m = r.low in
+        let line = r.line in
+        let size = r.marks.size in
+        let room : v * v ≤ length old = g.room in
+        let x : group row l < v = good_below v (length row) row 0 l g.good (omega arith) in
+        let z : group row m < v = good_below v (length row) row 0 m g.good h in
+        omega (arith, digits_lt x z, is_group)
+
+    pub marked_to_next : (n : ℕ) → n ≡ min (get_or new (base + y) 0 + 1) 2 → MarkedTo v row l base (m + 1) old (set new (base + y) n)
+    marked_to_next n i =
+        record {
+          good = r.good;
+          line = r.line;
+          low = let q : l < m = r.low in omega arith;
+          most = omega arith;
+          marks = rw (r.line, is_group) (mark_then v _ _ _ old new _ r.marks one joined);
+        }
+      where
+        one : Marked v (λ (a c : ℕ). eqb (group row l) a && eqb (group row m) c) new (set new (group row l * v + group row m) n)
+        one =
+            mark_one v new (group row l) (group row m) n (good_below v (length row) row 0 m r.good.good h)
+            (rw (r.line, is_group) at marked_to_within)
+            (rw (r.line, is_group) at i)
+
+        joined : (a c : ℕ) → Joined (eqb (group row l) a && seen row m c) (eqb (group row l) a && eqb (group row m) c) (eqb (group row l) a && seen row (m + 1) c)
+        joined a c =
+            joined_left (eqb (group row l) a) _ _ _ (among_joined (length row) row 0 m c (good_rising v (length row) row 0 r.good.good) h)
+
+  pub marked_to_all :
+      (base m : ℕ) (old new : List ℕ) → MarkedTo v row l base m old new → length row ≤ m
+      → Marked v (pair_from (length row) row 0 l) old new
+  unfolding names
+  marked_to_all base m old new r h =
+      let most : m ≤ length row = r.most in
+      let e : m ≡ length row = omega arith in
+      rw e at r.marks
 
 -- the pairs of the first l groups with those behind them, and then those of the group at position l
 row_next :
@@ -231,53 +231,32 @@ row_next v k d t l old mid new r h p q =
     mark_then v _ _ _ old mid new p q
     (λ (a c : ℕ). joined_right (names k d c t) _ _ _ (among_joined k d t l a r h))
 
-pub record RowTo (v k : ℕ) (d : List ℕ) (t l : ℕ) (old new : List ℕ) : Type 0 where
-  pub row : GoodRow v k t d old
-  pub most : l < k
-  pub marks : Marked v (λ (a c : ℕ). among k d t l a && names k d c t) old new
+pub record RowTo (v : ℕ) (row : List ℕ) (l : ℕ) (old new : List ℕ) : Type 0 where
+  pub good : GoodRow v row old
+  pub marks : Marked v (λ (a c : ℕ). seen row l a && names (length row) row c 0) old new
 
-pub row_to_none :
-    (v k : ℕ) (d : List ℕ) (t : ℕ) (table : List ℕ) → GoodRow v k t d table → RowTo v k d t 0 table table
-row_to_none v k d t table g =
-    record {
-      row = g;
-      most = omega (arith, g.limits);
-      marks = mark_none v _ table (λ (a c : ℕ) (p : a < c). and_left_false (among k d t 0 a) (names k d c t) (none a));
-    }
-  where
-    none : (a : ℕ) → among k d t 0 a ≡ false
-    none a = none_any (holds k d a t) 0 (λ (j : ℕ) (h : j < 0). absurd (omega arith))
+module _ (v : ℕ) (row : List ℕ) where
+  pub row_to_next :
+      (l : ℕ) (old mid new : List ℕ) → RowTo v row l old mid → l < length row - 1
+      → Marked v (pair_from (length row) row 0 l) mid new → RowTo v row (l + 1) old new
+  row_to_next l old mid new r h s =
+      record {
+        good = r.good;
+        marks = row_next v (length row) row 0 l old mid new (good_rising v (length row) row 0 r.good.good) (omega arith) r.marks s;
+      }
 
-pub row_to_row :
-    (v k : ℕ) (d : List ℕ) (t l : ℕ) (old new : List ℕ) → RowTo v k d t l old new → GoodRow v k t d new × (l < k)
-row_to_row v k d t l old new r =
-    let g = r.row in (
-      record { limits = g.limits; row_end = g.row_end; good = g.good; room = omega (arith, g.room, r.marks.size) },
-      r.most,
-    )
-
-pub row_to_next :
-    (v k : ℕ) (d : List ℕ) (t l : ℕ) (old mid new : List ℕ) → RowTo v k d t l old mid → l < k - 1
-    → Marked v (pair_from k d t l) mid new → RowTo v k d t (l + 1) old new
-row_to_next v k d t l old mid new r h s =
-    record {
-      row = r.row;
-      most = omega arith;
-      marks = row_next v k d t l old mid new (good_rising v k d t r.row.good) r.most r.marks s;
-    }
-
--- the last group has none behind it
-pub row_to_all :
-    (v k : ℕ) (d : List ℕ) (t l : ℕ) (old new : List ℕ) → RowTo v k d t l old new → k - 1 ≤ l
-    → Marked v (pair_of k d t) old new
-unfolding names
-row_to_all v k d t l old new r h =
-    let rising = good_rising v k d t r.row.good in
-    let most : l < k = r.most in
-    let e : l + 1 ≡ k = omega arith in
-    let last : Marked v (λ (a c : ℕ). eqb (group_at k d t l) a && among k d t k c) new new =
-    rw e at (mark_none v _ new (none_behind k d t l rising most)) in
-    rw e at (row_next v k d t l old new new rising most r.marks last)
+  -- the last group has none behind it
+  pub row_to_all :
+      (l : ℕ) (old new : List ℕ) → RowTo v row l old new → l ≡ length row - 1 → Marked v (pair_of (length row) row 0) old new
+  unfolding names
+  row_to_all l old new r h =
+      let k_low : 2 ≤ length row = r.good.limits.k_low in
+      let rising = good_rising v (length row) row 0 r.good.good in
+      let most : l < length row = omega arith in
+      let e : l + 1 ≡ length row = omega arith in
+      let last : Marked v (λ (a c : ℕ). eqb (group row l) a && seen row (length row) c) new new =
+      rw e at (mark_none v _ new (none_behind (length row) row 0 l rising most)) in
+      rw e at (row_next v (length row) row 0 l old new new rising most r.marks last)
 
 -- ---- all rows
 
@@ -286,34 +265,33 @@ counted_step true n = omega arith
 counted_step false n = refl
 
 pub counted_next :
-    (v k : ℕ) (d : List ℕ) (t : ℕ) (old new : List ℕ) → Counted v k t d old
-    → Marked v (pair_of k d t) old new → Counted v k (t + 1) d new
+    (v k : ℕ) (d : List ℕ) (t : ℕ) (row old new : List ℕ) → IsRow k d t row → Counted v k t d old
+    → Marked v (pair_of (length row) row 0) old new → Counted v k (t + 1) d new
 unfolding rows_with
-counted_next v k d t old new r s =
+counted_next v k d t row old new i r s =
     record {
       room = omega (arith, r.room, s.size);
       each =
           λ (a c : ℕ) (p : a < c) (q : c < v).
           s.each a c p q
-          ∙ ap (marked_if (pair_of k d t a c)) (r.each a c p q)
+          ∙ ap₂ marked_if (pair_same a c) (r.each a c p q)
           ∙ counted_step (pair_of k d t a c) (rows_with k t d a c)
           ∙ sym (rw (add-one t, count_suc (λ (s : ℕ). pair_of k d s a c) t));
     }
+  where
+    pair_same : (a c : ℕ) → pair_of (length row) row 0 a c ≡ pair_of k d t a c
+    pair_same a c = ap₂ ◌&&◌ (row_same_names k d t row i a) (row_same_names k d t row i c)
 
 pub counted_row :
-    (v k b : ℕ) (d : List ℕ) (t : ℕ) (table : List ℕ) → GoodRows v k b d → Counted v k t d table → t < b
-    → GoodRow v k t d table
-counted_row v k b d t table g r h =
+    (v k b : ℕ) (d : List ℕ) (t : ℕ) (row table : List ℕ) → GoodRows v k b d → IsRow k d t row → Counted v k t d table
+    → GoodRow v row table
+counted_row v k b d t row table g i r =
+    let below : t < b = row_below k b t (omega (arith, g.rows.limits)) (omega (arith, g.rows.size, i.within)) in
     record {
-      limits = g.rows.limits;
-      row_end = (row_within g.rows h).1;
-      good = g.good t h;
+      limits = rw i.size g.rows.limits;
+      good = row_same_bad k d t row i v ∙ g.good t below;
       room = r.room;
     }
-
-pub counted_all :
-    (v k b : ℕ) (d : List ℕ) (t : ℕ) (table : List ℕ) → Counted v k t d table → t ≤ b → b ≤ t → Counted v k b d table
-counted_all v k b d t table r h q = let e : t ≡ b = omega arith in rw e at r
 
 -- nothing is counted yet
 pub counted_none : (v k : ℕ) (d : List ℕ) (n : ℕ) → v * v ≤ n → Counted v k 0 d (replicate n 0)

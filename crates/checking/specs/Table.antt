@@ -5,6 +5,10 @@ use Rattle.geometry.specs.Geometry.{Limits}
 use Rattle.design.specs.Design.{group_at, names}
 use Rattle.checking.specs.Rules.{row_bad, rows_with}
 
+-- how many rows of k the list has
+abbrev pub rows_in : ℕ → List ℕ → ℕ
+rows_in k d = length d / k
+
 -- the list has b rows of k, for v groups: neither 2 nor 3 is due
 pub record Rows (v k b : ℕ) (d : List ℕ) : Type 0 where
   pub limits : Limits v k
@@ -15,11 +19,10 @@ pub record GoodRows (v k b : ℕ) (d : List ℕ) : Type 0 where
   pub rows : Rows v k b d
   pub good : (t : ℕ) → t < b → row_bad v k d t ≡ false
 
--- row t is one that 4 does not refuse, and the table has an entry for each pair
-pub record GoodRow (v k t : ℕ) (d table : List ℕ) : Type 0 where
-  pub limits : Limits v k
-  pub row_end : t * k + k ≤ length d
-  pub good : row_bad v k d t ≡ false
+-- a row that 4 does not refuse, and the table has an entry for each pair
+pub record GoodRow (v : ℕ) (row table : List ℕ) : Type 0 where
+  pub limits : Limits v (length row)
+  pub good : row_bad v (length row) row 0 ≡ false
   pub room : v * v ≤ length table
 
 -- row t names both groups

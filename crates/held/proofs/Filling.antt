@@ -1,12 +1,12 @@
 -- A lent list filled from the front: what it holds after l entries are those of f, and then its old ones. Assumes nothing.
-use Prim.Native.Nat.{ℕ, zero, suc, ◌+◌, ◌-◌, ◌≤◌, ◌<◌}
+use Prim.Native.Nat.{ℕ, zero, suc, ◌+◌, ◌-◌, ◌<◌}
 use mathlib.Core.Path.{◌≡◌, refl, ap₂}
 use mathlib.Core.List.{List, [], ◌∷◌, ◌++◌, append_assoc, append-nil}
 use native.Mathlib.Nat.{add-zero, add-suc, le_refl}
 use native.Mathlib.Numerals.{add-one}
 use native.Mathlib.Omega.{arith}
-use lib.ListN.{length, get_or, set, drop, length-append, length-drop}
-use lib.Seq.{drop-cons, drop-drop, drop-length, drop_at, take_at, set_at}
+use lib.ListN.{length, get_or, set, drop}
+use lib.Seq.{drop-cons, drop-drop, drop_at, take_at, set_at}
 use borrow.Rule.Slice.PartMut.{put_mid}
 use Rattle.counting.specs.Lists.{list_of}
 use Rattle.counting.proofs.Lists.{list_of_length}
@@ -29,9 +29,6 @@ module _ (f : ℕ → ℕ) (d : List ℕ) where
   pub filled_none : Filled f d 0 d
   unfolding list_of
   filled_none = refl
-
-  pub filled_length : (l : ℕ) (xs : List ℕ) → l ≤ length d → Filled f d l xs → length xs ≡ length d
-  filled_length l xs h e = rw (e, length-append, list_of_length, length-drop) (omega arith)
 
   -- one entry more
   pub filled_more : (l x : ℕ) (xs : List ℕ) → l < length d → x ≡ f l → Filled f d l xs → Filled f d (l + 1) (set xs l x)
@@ -59,7 +56,3 @@ module _ (f : ℕ → ℕ) (d : List ℕ) where
         list_of_same (λ (j : ℕ). f (m + j)) g k same,
         append_assoc,
       )
-
-  -- every entry
-  pub filled_all : (n l : ℕ) (xs : List ℕ) → length d ≡ n → l ≡ n → Filled f d l xs → xs ≡ list_of f n
-  filled_all n l xs h q e = rw (e, q, ← h, drop-length, append-nil)

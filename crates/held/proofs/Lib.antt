@@ -1,9 +1,9 @@
 pub mod Reasons
-pub mod Padding
 pub mod Ascending
 pub mod Rotation
 pub mod Filling
 pub mod Table
+pub mod Lookup
 pub mod Answers
 pub mod Difference
 pub mod TwoResults

@@ -11,6 +11,8 @@ use lib.Arith.{digits_div, digits_mod}
 use lib.ListN.{length, get_or}
 use lib.Dec.{ltb, leb, eqb}
 use borrow.Author.Tests.{lt-ltb, le-ltb, le-leb, lt-leb, leb-true, leb-false, eq-eqb, eqb-true}
+use Rattle.std.specs.Prelude.{Option, Some, None, MatchOption, unwrap_or}
+use Rattle.std.specs.List.{AllWithin, HoldsAt}
 use Rattle.counting.proofs.Ascending.{ascends_far, ascends_le}
 use Rattle.counting.proofs.Laws.{lowest_is, lowest_none, lowest_le, lowest_holds, lowest_before, any_true, any_witness}
 use Rattle.held.specs.Held.{shifted, held_group}
@@ -43,6 +45,16 @@ pub past_none :
 unfolding first_past
 past_none v s i before =
     sym (lowest_none (λ (j : ℕ). leb v (get_or s j 0 + i)) (length s) (λ m q. lt-leb v (get_or s m 0 + i) (before m q)))
+
+-- what a search for the first member of v - i or more finds
+pub past_where :
+    (v : ℕ) (s : List ℕ) (i : ℕ) (place : Option ℕ)
+    → MatchOption place (AllWithin (λ x. x < v - i) s 0 (length s))
+    (λ j. (j < length s) × HoldsAt (λ x. v - i ≤ x) s j × AllWithin (λ x. x < v - i) s 0 j)
+    → unwrap_or place (length s) ≡ first_past v s i
+past_where v s i None h = past_none v s i (λ m q. let y = h m 0 (omega arith) q in omega arith)
+past_where v s i (Some j) h =
+    past_is v s i j h.0 (let y = h.1 0 in omega arith) (λ m q. let y = h.2 m 0 (omega arith) q in omega arith)
 
 -- how many members reach v
 abbrev pub wrapped : (v : ℕ) → List ℕ → (i : ℕ) → ℕ

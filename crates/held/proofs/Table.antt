@@ -16,7 +16,7 @@ use Rattle.counting.proofs.Bools.{bool_either, and_both, or_one}
 use Rattle.geometry.proofs.Laws.{limits_of}
 use Rattle.geometry.specs.Geometry.{beyond_limits, whole, r_of, b_of}
 use Rattle.held.specs.Held.{Held, table, lookup, set_for}
-use Rattle.held.specs.Reasons.{HeldSet}
+use Rattle.held.specs.Reasons.{HeldSet, NoSet}
 use Rattle.held.specs.Developed.{Developable}
 
 -- the test passes at each number below n
@@ -147,6 +147,11 @@ held_found v s h = (known 0 table v s all_pass_lem h).found
 pub set_held : (v : ℕ) → (length (set_for v) ≡ 0 → ⊥) → HeldSet table v (set_for v)
 unfolding set_for
 set_held v n = ⊎_elim (λ e. absurd (n (ap length e))) (λ h. h) (found_held table v)
+
+-- where none is held nothing is found
+pub none_found : (v : ℕ) → NoSet v → set_for v ≡ []
+unfolding set_for
+none_found v h = ⊎_elim (λ e. e) (λ w. absurd (h (lookup table v) w)) (found_held table v)
 
 -- each set of the table is a difference set
 pub held_set : (v : ℕ) (s : List ℕ) → HeldSet table v s → DifferenceSet v s

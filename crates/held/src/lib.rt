@@ -1,93 +1,71 @@
 // The held difference sets (01), and the call that fills a lent list with the design of a held v.
 #![tactic(auto)]
 
-ghost use Rattle.std.specs.Prelude.{◌≡◌, ◌*◌, ◌<◌, length, take};
+ghost use Rattle.std.specs.Prelude.{◌≡◌, ◌*◌, ◌<◌, length, MatchOption};
 ghost use Rattle.counting.specs.Lists.{list_of};
-ghost use Rattle.refusal.specs.Refusal.{verdict, kept, checked_outcome};
-ghost use Rattle.held.specs.Held.{set_for, held_group, held_design, fill_rules};
+ghost use Rattle.refusal.specs.Refusal.{verdict, kept, outcome_of};
+ghost use Rattle.held.specs.Held.{table, set_for, held_group, held_design, fill_rules};
+ghost use Rattle.held.specs.Reasons.{HeldSet, NoSet};
 ghost use Rattle.held.specs.Developed.{Developable, first_past, developed};
 
-use refusal::{Checked, Refusal};
+use refusal::Refusal;
 
-// A row of the table: a v and its set, the first `length` of ten members.
+// "a v and its set"
 #[derive(Clone, Copy)]
-struct Padded {
+struct Held {
     v: u32,
-    length: usize,
-    members: [u16; 10],
+    set: &'static [u16],
 }
 
-// 000's table 1, with 57 for its fifth v (01), each set padded to ten members.
-const TABLE: [Padded; 7] = [
-    Padded {
+// 000's table 1, with 57 for its fifth v (01).
+static TABLE: [Held; 7] = [
+    Held {
         v: 7,
-        length: 3,
-        members: [0, 1, 3, 0, 0, 0, 0, 0, 0, 0],
+        set: &[0, 1, 3],
     },
-    Padded {
+    Held {
         v: 13,
-        length: 4,
-        members: [0, 1, 3, 9, 0, 0, 0, 0, 0, 0],
+        set: &[0, 1, 3, 9],
     },
-    Padded {
+    Held {
         v: 21,
-        length: 5,
-        members: [0, 1, 4, 14, 16, 0, 0, 0, 0, 0],
+        set: &[0, 1, 4, 14, 16],
     },
-    Padded {
+    Held {
         v: 31,
-        length: 6,
-        members: [0, 1, 3, 8, 12, 18, 0, 0, 0, 0],
+        set: &[0, 1, 3, 8, 12, 18],
     },
-    Padded {
+    Held {
         v: 57,
-        length: 8,
-        members: [0, 1, 3, 13, 32, 36, 43, 52, 0, 0],
+        set: &[0, 1, 3, 13, 32, 36, 43, 52],
     },
-    Padded {
+    Held {
         v: 73,
-        length: 9,
-        members: [0, 1, 3, 7, 15, 31, 36, 54, 63, 0],
+        set: &[0, 1, 3, 7, 15, 31, 36, 54, 63],
     },
-    Padded {
+    Held {
         v: 91,
-        length: 10,
-        members: [0, 1, 3, 9, 27, 49, 56, 61, 77, 81],
+        set: &[0, 1, 3, 9, 27, 49, 56, 61, 77, 81],
     },
 ];
 
-// The row of v, and one of no members where no set is held.
-fn padded_for(v: u32) -> Padded
-    ensures { (result.length ≡ length (set_for v)) × (take result.length result.members ≡ set_for v) }
+// The set held for v.
+fn set_of(v: u32) -> Option<&'static [u16]>
+    ensures { MatchOption result (NoSet v) (λ set. HeldSet table v set.now) }
 {
-    let mut i: usize = 0;
-    while i < 7 {
-        let row = TABLE[i];
-        if row.v == v {
-            return row;
-        }
-        i += 1;
-    }
-    Padded {
-        v,
-        length: 0,
-        members: [0; 10],
-    }
+    TABLE.iter().find(|held| held.v == v).map(|held| held.set)
 }
 
-// The first member that reaches v where i is added to it, and the set's length where none does.
+// Where row i splits the set: the first member that reaches v where i is added to it, and the set's end where none does.
+// (`partition_point` would take the fill up to a quarter more instructions.)
 fn first_past(v: u16, set: &[u16], i: u16) -> usize
     requires { Developable v set.now × (i < v) }
     ensures { result ≡ first_past v set.now i }
 {
-    let mut j: usize = 0;
-    while j < set.len() {
-        if v <= set[j] + i {
-            return j;
-        }
-        j += 1;
-    }
-    j
+    let reaches = v - i;
+    set.iter()
+        .position(|member| reaches <= *member)
+        .unwrap_or(set.len())
 }
 
 // The l-th lowest group of row i: the members from `past` on come first, less v, and then the others.
@@ -97,9 +75,10 @@ fn group_of(v: u16, set: &[u16], i: u16, past: usize, l: usize) -> u16
 {
     let wrapped = set.len() - past;
     if l < wrapped {
-        return set[past + l] + i - v;
+        set[past + l] + i - v
+    } else {
+        set[l - wrapped] + i
     }
-    set[l - wrapped] + i
 }
 
 // Row i of the design, into a list of the set's length.
@@ -108,25 +87,20 @@ fn develop_row(v: u16, set: &[u16], i: u16, row: &mut [u16])
     ensures { row.new ≡ list_of (held_group v set.now i) (length set.now) }
 {
     let past = first_past(v, set, i);
-    let mut l: usize = 0;
-    while l < set.len() {
-        row[l] = group_of(v, set, i, past, l);
-        l += 1;
+    for (l, group) in row.iter_mut().enumerate() {
+        *group = group_of(v, set, i, past, l);
     }
 }
 
-// The design of a set, row after row.
+// The design of a set, row after row. (Of what `chunks_exact_mut` lends, no proof knows how it ends.)
 fn develop(v: u16, set: &[u16], design: &mut [u16])
     requires { Developable v set.now × (length design.old ≡ v * length set.now) }
     ensures { design.new ≡ list_of (developed v set.now) (v * length set.now) }
 {
-    let mut i: u16 = 0;
-    let mut at: usize = 0;
-    while i < v {
-        let end = at + set.len();
-        develop_row(v, set, i, &mut design[at..end]);
-        at = end;
-        i += 1;
+    let k = set.len();
+    for i in 0..v {
+        let at = usize::from(i) * k;
+        develop_row(v, set, i, &mut design[at..at + k]);
     }
 }
 
@@ -134,30 +108,20 @@ fn develop(v: u16, set: &[u16], design: &mut [u16])
 pub fn set_size(v: u32) -> usize
     ensures { result ≡ length (set_for v) }
 {
-    let held = padded_for(v);
-    held.length
+    set_of(v).map_or(0, |set| set.len())
 }
 
 // "A call fills a lent list with the design of a held v" (01): refusal 1 where no set is held for v, 3 where the list's
 // length is not b·k; else the list is filled.
-pub fn fill(v: u32, design: &mut [u16]) -> Checked
-    ensures { (checked_outcome result ≡ verdict (fill_rules v (length design.old))) × (design.new ≡ kept (verdict (fill_rules v (length design.old))) (held_design v) design.old) }
+pub fn fill(v: u32, design: &mut [u16]) -> Result<(), Refusal>
+    ensures { (outcome_of result ≡ verdict (fill_rules v (length design.old))) × (design.new ≡ kept (verdict (fill_rules v (length design.old))) (held_design v) design.old) }
 {
-    let held = padded_for(v);
-    let k = held.length;
-    if k == 0 {
-        return Checked::Refused(Refusal {
-            number: 1,
-            place: 0,
-        });
+    let Some(set) = set_of(v) else {
+        return Err(Refusal::NotHeld);
+    };
+    if design.len() != (v as usize) * set.len() {
+        return Err(Refusal::NotWhole);
     }
-    if design.len() != (v as usize) * k {
-        return Checked::Refused(Refusal {
-            number: 3,
-            place: 0,
-        });
-    }
-    let members = held.members;
-    develop(v as u16, &members[..k], design);
-    Checked::Fine
+    develop(v as u16, set, design);
+    Ok(())
 }

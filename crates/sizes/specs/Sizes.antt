@@ -1,13 +1,10 @@
 -- 01, "Refusal numbers", rows 2 to 6, and the sizes of an accepted geometry. Assumes nothing.
 use Rattle.std.specs.Prelude.{ℕ, not, List, [], ◌∷◌, ◌++◌}
-use Rattle.refusal.specs.Refusal.{Rule, rule, Outcome, refused, accepted}
+use Rattle.refusal.specs.Refusal.{Rule, rule}
 use Rattle.geometry.specs.declared.Geometry.{Geometry}
 use Rattle.geometry.specs.Geometry.{sizes_allowed, parts_of, tuples_of, disks_of, units_of, user_units_of, sets_of, bytes_of}
 use Rattle.checking.specs.Rules.{design_rules}
 use Rattle.sizes.specs.declared.Sizes.{Sizes}
-use Rattle.sizes.specs.declared.Sized.{Sized}
-use Rattle.sizes.specs.declared.Sized.TheVariants.{Refused}
-use Rattle.sizes.specs.declared.Sized.TheVariants.{Sizes as SizesOf}
 
 -- rows 2 to 6: "g or u not allowed" is 6
 unfoldable pub sizes_rules : Geometry → List ℕ → List Rule
@@ -26,8 +23,3 @@ sizes_of G =
       sets = sets_of G;
       bytes = bytes_of G;
     }
-
--- 01's number, place and values for each answer
-abbrev pub sized_outcome : Sized → Outcome Sizes
-sized_outcome (SizesOf x) = accepted x
-sized_outcome (Refused x) = refused x.number x.place

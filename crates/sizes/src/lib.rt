@@ -2,12 +2,12 @@
 #![tactic(auto)]
 
 ghost use Rattle.std.specs.Prelude.{◌≡◌};
-ghost use Rattle.refusal.specs.Refusal.{answer, verdict, checked_outcome};
+ghost use Rattle.refusal.specs.Refusal.{answer, verdict, outcome_of};
 ghost use Rattle.geometry.specs.Geometry.{Sound};
-ghost use Rattle.sizes.specs.Sizes.{sizes_rules, sizes_of, sized_outcome};
+ghost use Rattle.sizes.specs.Sizes.{sizes_rules, sizes_of};
 
 use geometry::Geometry;
-use refusal::{Checked, Refusal};
+use refusal::Refusal;
 
 // What is derived from a geometry: parts of a disk (r), tuples (b), disks, units of a disk, user units, sets, bytes of the array.
 #[derive(Clone, Copy)]
@@ -21,30 +21,15 @@ pub struct Sizes {
     pub bytes: u64,
 }
 
-#[derive(Clone, Copy)]
-pub enum Sized {
-    Sizes(Sizes),
-    Refused(Refusal),
-}
-
 // Refusals 2 to 6, which every call on a design and a geometry tests first: the design, then g and u.
-pub fn check_sizes(geometry: Geometry, design: &[u16]) -> Checked
-    ensures { checked_outcome result ≡ verdict (sizes_rules geometry design.now) }
+pub fn check_sizes(geometry: Geometry, design: &[u16]) -> Result<(), Refusal>
+    ensures { outcome_of result ≡ verdict (sizes_rules geometry design.now) }
 {
-    let checked = checking::check(geometry.v, geometry.k, design);
-    match checked {
-        Checked::Refused(x) => {
-            return Checked::Refused(x);
-        }
-        Checked::Fine => {}
+    checking::check(geometry.v, geometry.k, design)?;
+    if !geometry::sizes_allowed(geometry.k, geometry.g, geometry.u) {
+        return Err(Refusal::NotAllowed);
     }
-    if geometry::sizes_allowed(geometry.k, geometry.g, geometry.u) {
-        return Checked::Fine;
-    }
-    Checked::Refused(Refusal {
-        number: 6,
-        place: 0,
-    })
+    Ok(())
 }
 
 // The derived numbers of a geometry, by name.
@@ -64,12 +49,9 @@ fn derived(geometry: Geometry) -> Sizes
 }
 
 // The derived numbers of a geometry with its design, or the refusal: 2 to 6.
-pub fn sizes_of(geometry: Geometry, design: &[u16]) -> Sized
-    ensures { sized_outcome result ≡ answer (sizes_rules geometry design.now) (sizes_of geometry) }
+pub fn sizes_of(geometry: Geometry, design: &[u16]) -> Result<Sizes, Refusal>
+    ensures { outcome_of result ≡ answer (sizes_rules geometry design.now) (sizes_of geometry) }
 {
-    let checked = check_sizes(geometry, design);
-    match checked {
-        Checked::Refused(x) => Sized::Refused(x),
-        Checked::Fine => Sized::Sizes(derived(geometry)),
-    }
+    check_sizes(geometry, design)?;
+    Ok(derived(geometry))
 }

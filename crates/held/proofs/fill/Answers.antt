@@ -1,62 +1,41 @@
 -- `held::fill` meets its contract: each return by the law of its case. Assumes nothing.
-use Prim.Native.Nat.{ℕ, ◌*◌}
+use Prim.Native.Nat.{◌*◌}
 use mathlib.Core.Path.{◌≡◌, sym, ap, ◌∙◌}
 use native.Mathlib.Nat.{mul-le-mul}
 use native.Mathlib.Omega.{arith}
-use lib.ListN.{length, length-take}
+use lib.ListN.{length}
 use Rattle.held.specs.Held.{set_for}
-use Rattle.held.proofs.Table.{DifferenceSet, held_difference}
+use Rattle.held.proofs.Table.{DifferenceSet, held_found, none_found, held_set}
 use Rattle.held.proofs.Answers.{not_held, other_length, fills}
 use Rattle.held.proofs.fill.Goals as goal
-use Rattle.held.proofs.fill.Goals.{Else-design-v, Else-k-eq0}
+use Rattle.held.proofs.fill.Goals.{In-Some}
 
--- past the first test a set is held for v
-is_held : (c : Else-k-eq0) → length (set_for c.args.v) ≡ 0 → ⊥
-is_held c e = c.if-k-eq0.false (c.padded_for-held.ensures.0 ∙ e)
+-- past the first test a set is held for v, and it is the one that was found
+difference_set : (c : In-Some) → DifferenceSet c.args.v c.in-Some.set.now
+difference_set c = held_set _ _ c.in-Some.ensures
 
-the-set : (c : Else-k-eq0) → DifferenceSet c.args.v (set_for c.args.v)
-the-set c = held_difference c.args.v (is_held c)
+found : (c : In-Some) → set_for c.args.v ≡ c.in-Some.set.now
+found c = held_found _ _ c.in-Some.ensures
 
--- past the second the list is as long as its design
-is-long : (c : Else-design-v) → length c.args.design.now ≡ c.args.v * length (set_for c.args.v)
-is-long c = c.if-design-v.false ∙ ap (λ (k : ℕ). c.args.v * k) c.padded_for-held.ensures.0
+is_held : (c : In-Some) → length (set_for c.args.v) ≡ 0 → ⊥
+is_held c e = let L = (difference_set c).developable.limits in omega (arith, ap length (found c), L.k_low)
 
-pub returns-then-k-eq0 : goal.returns-then-k-eq0
-returns-then-k-eq0 c =
-    not_held c.args.v c.args.design.now
-    (sym c.padded_for-held.ensures.0 ∙ c.if-k-eq0.true)
+pub returns-in_default : goal.returns-in_default
+returns-in_default c = not_held _ _ (ap length (none_found _ (rw c.in_default.is at c.set_of.ensures)))
 
 pub overflow_mul-v : goal.overflow_mul-v
 overflow_mul-v c =
-    let L = (the-set c).developable.limits in
-    omega (arith, mul-le-mul L.v_high L.k_high, ap (λ (k : ℕ). c.args.v * k) c.padded_for-held.ensures.0)
+    let L = (difference_set (goal.at.overflow_mul-v c).In-Some).developable.limits in omega (arith, mul-le-mul L.v_high L.k_high)
 
 pub returns-then-design-v : goal.returns-then-design-v
 returns-then-design-v c =
-    let a = c.args in
-    other_length a.v a.design.now (is_held (goal.at.returns-then-design-v c).Else-k-eq0)
-    (λ e. c.if-design-v.true (e ∙ ap (λ (k : ℕ). a.v * k) (sym c.padded_for-held.ensures.0)))
-
-pub overflow_cast-v-2 : goal.overflow_cast-v-2
-overflow_cast-v-2 c = omega (arith, (the-set (goal.at.overflow_cast-v-2 c).Else-k-eq0).developable.limits.v_high)
-
-pub slice_bounds-members-end : goal.slice_bounds-members-end
-slice_bounds-members-end c =
-    let p = c.padded_for-held.ensures in
-    omega (arith, simp length-take at (ap length p.1), p.0)
-
-pub slice_bounds-develop-end : goal.slice_bounds-develop-end
-slice_bounds-develop-end c =
-    let p = c.padded_for-held.ensures in p.0 ∙ ap length (sym p.1)
+    let h = (goal.at.returns-then-design-v c).In-Some in
+    other_length _ _ (is_held h) (λ e. c.if-design-v.true (e ∙ ap (λ s. c.args.v * length s) (found h)))
 
 pub develop-requires : goal.develop-requires
-develop-requires c =
-    let p = c.padded_for-held.ensures in
-    rw p.1 ((the-set (goal.at.develop-requires c).Else-k-eq0).developable, is-long (goal.at.develop-requires c).Else-design-v)
+develop-requires c = ((difference_set (goal.at.develop-requires c).In-Some).developable, c.if-design-v.false)
 
 pub returns : goal.returns
 returns c =
-    let a = c.args in
-    let h = goal.at.returns c in
-    fills a.v a.design.now (is_held h.Else-k-eq0) _ (is-long h.Else-design-v)
-    (rw c.padded_for-held.ensures.1 at c.develop.ensures)
+    let h = (goal.at.returns c).In-Some in
+    fills _ _ (is_held h) _ (c.if-design-v.false ∙ ap (λ s. c.args.v * length s) (sym (found h))) (rw (found h) c.develop.ensures)

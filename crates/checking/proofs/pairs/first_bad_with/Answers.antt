@@ -1,31 +1,15 @@
--- `first_bad_with`: no c before the present one makes a bad pair with a. Assumes nothing.
-use native.Mathlib.Omega.{arith}
-use lib.Arith.{digits_lt}
-use Rattle.checking.proofs.Entries.{entry_bad_lem, entry_good, scanned_above}
-use Rattle.checking.proofs.Scan.{scanned_next, scanned_found, scanned_all}
+-- `first_bad_with`: the search goes by the entries a·v+c with c behind a. Assumes nothing.
+use Rattle.std.proofs.Common.{◌≡◌, ◌+◌, ◌*◌, get_or, rules, tests}
+use Rattle.std.proofs.lemmas.Iterator.{first_from_Range}
+use Rattle.checking.proofs.Entries.{first_entry}
 use Rattle.checking.proofs.pairs.first_bad_with.Goals as goal
 
-pub overflow_mul-base : goal.overflow_mul-base
-overflow_mul-base c = omega (arith, digits_lt c.requires.0 c.requires.0)
-
-pub loop-c-init : goal.loop-c-init
-loop-c-init c = (scanned_above _ _ _ c.requires.0, omega arith)
-
-pub overflow_add-base : goal.overflow_add-base
-overflow_add-base c = omega (arith, digits_lt c.requires.0 c.loop-c-test.true)
-
-pub bounds-table-base : goal.bounds-table-base
-bounds-table-base c = omega (arith, digits_lt c.requires.0 c.loop-c-test.true)
-
-pub returns-then-table-base-ne1 : goal.returns-then-table-base-ne1
-returns-then-table-base-ne1 c =
-    let i = c.loop-c.invariant in
-    scanned_found _ _ _ i.0 c.loop-c-test.true (entry_bad_lem _ _ _ _ i.1 c.if-table-base-ne1.true)
-
-pub loop-c-preserved : goal.loop-c-preserved
-loop-c-preserved c =
-    let i = c.loop-c.invariant in
-    (scanned_next _ _ _ i.0 c.loop-c-test.true (entry_good _ _ _ _ c.if-table-base-ne1.false), omega arith)
-
 pub returns : goal.returns
-returns c = scanned_all _ _ _ c.loop-c.invariant.0 c.loop-c-test.false
+returns c =
+    let a = c.args in
+    first_entry _ _ _ c.find.result (record {
+      line = c.requires.0;
+      found =
+          first_from_Range _ _ _ c.find.result (λ x. get_or a.table.now (a.a * a.v + x) 0 ≡ 1 → ⊥) (λ x. get_or a.table.now (a.a * a.v + x) 0 ≡ 1)
+          c.find.ensures.ran (λ x q k. search (rules, tests)) (λ x q k. search (rules, tests));
+    })

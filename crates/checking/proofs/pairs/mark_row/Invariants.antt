@@ -1,10 +1,6 @@
 -- `mark_row`: the pairs of the first l groups with those behind them are counted. Assumes nothing.
-use Prim.Native.Nat.{◌-◌}
 use Rattle.checking.proofs.Marks.{RowTo}
 use Rattle.checking.proofs.pairs.mark_row.Given as goal
 
 abbrev pub invariant-loop-l : goal.invariant-loop-l
-invariant-loop-l l = RowTo l.v l.k l.design l.t l.l l.initial.table l.table
-
-abbrev pub decreases-loop-l : goal.decreases-loop-l
-decreases-loop-l l = l.k - l.l
+invariant-loop-l l = RowTo l.v l.row l.l l.initial.table l.table

@@ -1,12 +1,9 @@
--- `mark_rows`: the table counts the first t rows. Assumes nothing.
-use Prim.Native.Nat.{◌-◌, ◌≤◌}
-use mathlib.Core.Path.{◌≡◌}
+-- `mark_rows`: the table counts the rows that came. Assumes nothing.
 use lib.ListN.{length}
 use Rattle.checking.specs.Table.{Counted}
+use Rattle.checking.proofs.Chunks.{CutTo}
 use Rattle.checking.proofs.pairs.mark_rows.Given as goal
 
-abbrev pub invariant-loop-t : goal.invariant-loop-t
-invariant-loop-t l = (l.t ≤ l.b) × (length l.table ≡ length l.initial.table) × Counted l.v l.k l.t l.design l.table
-
-abbrev pub decreases-loop-t : goal.decreases-loop-t
-decreases-loop-t l = l.b - l.t
+abbrev pub invariant-loop-row : goal.invariant-loop-row
+invariant-loop-row l =
+    CutTo l.k l.design (length l.yielded) l.row-iterator × Counted l.v l.k (length l.yielded) l.design l.table

@@ -1,42 +1,35 @@
--- `mark_with`: the pairs of the group at position l with those behind it and before position m are counted. Assumes nothing.
-use Prim.Native.Nat.{◌+◌, ◌*◌, ◌<◌}
-use native.Mathlib.Omega.{arith}
-use lib.ListN.{length}
-use Rattle.design.specs.Design.{group_at}
-use Rattle.checking.proofs.Marks.{line_within, marked_to_none, marked_to_within, marked_to_next, marked_to_all}
+-- `mark_with`: the pairs of the group at position l with those that were passed behind it are counted. Assumes nothing.
+use Rattle.std.proofs.Common.{◌≡◌, ℕ, ◌+◌, ◌*◌, ◌<◌, get_or, length, add-zero, add_assoc, length-take, length-drop, arith}
+use Rattle.std.proofs.lemmas.Grind.{common_steps}
+use Rattle.checking.proofs.Marks.{marked_to_none, marked_to_within, marked_to_next, marked_to_all}
 use Rattle.checking.proofs.pairs.mark_with.Goals as goal
-use Rattle.checking.proofs.pairs.mark_with.Goals.{After-wide-in-loop-m}
+use Rattle.checking.proofs.pairs.mark_with.Goals.{After-from-in-loop-c}
 
-pub overflow_mul-base : goal.overflow_mul-base
-unfolding group_at
-overflow_mul-base c =
-    let p = c.requires in
-    omega (arith, line_within _ _ _ _ _ _ _ p.0 p.1 c.wide.ensures)
+pub loop-c-init : goal.loop-c-init
+loop-c-init c = rw add-zero (marked_to_none _ _ _ _ _ c.requires.0 c.requires.1 c.from.ensures)
 
-pub loop-m-init : goal.loop-m-init
-unfolding group_at
-loop-m-init c =
-    let p = c.requires in
-    marked_to_none _ _ _ _ _ _ _ p.0 p.1 c.wide.ensures
+-- the group that comes stands behind position l
+behind : (c : After-from-in-loop-c) → c.from-in-loop-c.result ≡ get_or c.args.row.now (c.args.l + 1 + c.loop-c.c-index) 0
+behind c = grind (arith, common_steps)
+
+inside : (c : After-from-in-loop-c) → c.args.l + 1 + c.loop-c.c-index < length c.args.row.now
+inside c = omega (arith, length-take {A = ℕ}, length-drop {A = ℕ})
 
 -- the pair's number is within the table
-within : (c : After-wide-in-loop-m) → c.wide.result * c.args.v + c.wide-in-loop-m.result < length c.loop-m.table
-unfolding group_at
-within c = marked_to_within _ _ _ _ _ _ _ _ _ _ c.loop-m.invariant c.loop-m-test.true c.wide-in-loop-m.ensures
-
-pub overflow_add-p : goal.overflow_add-p
-overflow_add-p c = omega (arith, within c)
+within : (c : After-from-in-loop-c) → c.from.result * c.args.v + c.from-in-loop-c.result < length c.loop-c.table
+within c = marked_to_within _ _ _ _ _ _ _ _ c.loop-c.invariant (inside c) (behind c)
 
 pub bounds-table-p : goal.bounds-table-p
-bounds-table-p c = within (goal.at.bounds-table-p c).After-wide-in-loop-m
+bounds-table-p c = within (goal.at.bounds-table-p c).After-from-in-loop-c
 
-pub bounds-table-p-in-loop-m : goal.bounds-table-p-in-loop-m
-bounds-table-p-in-loop-m c = within (goal.at.bounds-table-p-in-loop-m c).After-wide-in-loop-m
+pub bounds-table-p-in-loop-c : goal.bounds-table-p-in-loop-c
+bounds-table-p-in-loop-c c = within (goal.at.bounds-table-p-in-loop-c c).After-from-in-loop-c
 
-pub loop-m-preserved : goal.loop-m-preserved
-unfolding group_at
-loop-m-preserved c =
-    marked_to_next _ _ _ _ _ _ _ _ _ _ _ c.loop-m.invariant c.loop-m-test.true c.wide-in-loop-m.ensures c.one_more.ensures
+pub loop-c-preserved : goal.loop-c-preserved
+loop-c-preserved c =
+    let h = (goal.at.loop-c-preserved c).After-from-in-loop-c in
+    rw (← (add_assoc (c.args.l + 1) c.loop-c.c-index 1))
+    (marked_to_next _ _ _ _ _ _ _ _ c.loop-c.invariant (inside h) (behind h) _ c.one_more.ensures)
 
 pub returns : goal.returns
-returns c = marked_to_all _ _ _ _ _ _ _ _ _ c.loop-m.invariant c.loop-m-test.false
+returns c = marked_to_all _ _ _ _ _ _ _ c.loop-c.invariant (omega (arith, length-take {A = ℕ}, length-drop {A = ℕ}))

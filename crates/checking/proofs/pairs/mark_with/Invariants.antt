@@ -1,10 +1,7 @@
--- `mark_with`: the pairs of the group at position l with those behind it and before position m are counted. Assumes nothing.
-use Prim.Native.Nat.{◌-◌}
+-- `mark_with`: the pairs of the group at position l with those that were passed behind it are counted. Assumes nothing.
+use Prim.Native.Nat.{◌+◌}
 use Rattle.checking.proofs.Marks.{MarkedTo}
 use Rattle.checking.proofs.pairs.mark_with.Given as goal
 
-abbrev pub invariant-loop-m : goal.invariant-loop-m
-invariant-loop-m l = MarkedTo l.v l.k l.design l.t l.l l.base l.m l.initial.table l.table
-
-abbrev pub decreases-loop-m : goal.decreases-loop-m
-decreases-loop-m l = l.k - l.m
+abbrev pub invariant-loop-c : goal.invariant-loop-c
+invariant-loop-c l = MarkedTo l.v l.row l.l l.base (l.l + 1 + l.c-index) l.initial.table l.table

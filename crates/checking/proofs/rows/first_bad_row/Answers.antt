@@ -1,23 +1,11 @@
--- `first_bad_row`: no row before t is bad. Assumes nothing.
-use mathlib.Core.Path.{sym, ◌∙◌}
-use Rattle.checking.proofs.Ascending.{row_within}
-use Rattle.checking.proofs.Scan.{scanned_none, scanned_next, scanned_found, scanned_all}
+-- `first_bad_row`: chunk t of the list is row t. Assumes nothing.
+use Rattle.std.proofs.Common.{rules, tests, arith}
+use Rattle.checking.proofs.Chunks.{first_chunk}
 use Rattle.checking.proofs.rows.first_bad_row.Goals as goal
 
-pub loop-t-init : goal.loop-t-init
-loop-t-init c = scanned_none _ _
-
-pub row_bad-requires : goal.row_bad-requires
-row_bad-requires c =
-    row_within c.requires c.loop-t-test.true
-
-pub returns-then-row_bad : goal.returns-then-row_bad
-returns-then-row_bad c =
-    scanned_found _ _ _ c.loop-t.invariant c.loop-t-test.true (sym c.row_bad.ensures ∙ c.if-row_bad.true)
-
-pub loop-t-preserved : goal.loop-t-preserved
-loop-t-preserved c =
-    scanned_next _ _ _ c.loop-t.invariant c.loop-t-test.true (sym c.row_bad.ensures ∙ c.if-row_bad.false)
-
 pub returns : goal.returns
-returns c = scanned_all _ _ _ c.loop-t.invariant c.loop-t-test.false
+returns c =
+    let run = c.position.ensures.runs in
+    let cut = c.chunks_exact.ensures in
+    first_chunk _ _ _ _ _ _ (λ x r h. search (rules, tests)) (λ x r f h. search (rules, tests)) (omega arith) c.requires.size c.args.design
+    run.0 (rw (run.1, cut.size, cut.rest) at (cut.runs run.0 run.0.seen (rw (run.1, cut.size) (omega arith)))) _ run.2

@@ -1,18 +1,19 @@
--- `row_bad`: up to l the row ascends, and `last` is its last group. Assumes nothing.
-use mathlib.Core.Path.{sym}
-use native.Mathlib.Omega.{arith}
-use Rattle.checking.proofs.Ascending.{passed_first, passed_next, passed_falls, passed_all}
+-- `row_bad`: a row that does not ascend is bad, and in any other the last group decides. Assumes nothing.
+use Rattle.std.proofs.Common.{ltb, sym, rules, tests}
+use Rattle.std.proofs.lemmas.List.Sorted.{answers_always}
+use Rattle.checking.proofs.Ascending.{AscendsAnswer, falls_bad, last_decides}
 use Rattle.checking.proofs.rows.row_bad.Goals as goal
+use Rattle.checking.proofs.rows.row_bad.Goals.{After-is_sorted_by}
 
-pub loop-l-init : goal.loop-l-init
-loop-l-init c = passed_first _ _ _ (omega arith)
+ascends : (c : After-is_sorted_by) → AscendsAnswer c.args.row.now c.is_sorted_by.result
+ascends c = c.is_sorted_by.ensures.cases ltb (answers_always _ _ _ (λ f a r g k. search (rules, tests)))
 
-pub returns-then-x-last : goal.returns-then-x-last
-returns-then-x-last c = sym (passed_falls _ _ _ _ _ _ c.loop-l.invariant c.loop-l-test.true c.if-x-last.true)
+pub returns-then-not-is_sorted_by : goal.returns-then-not-is_sorted_by
+returns-then-not-is_sorted_by c =
+    rw c.if-not-is_sorted_by.true
+    (sym (falls_bad _ _ _ (ascends (goal.at.returns-then-not-is_sorted_by c).After-is_sorted_by) c.if-not-is_sorted_by.true))
 
-pub loop-l-preserved : goal.loop-l-preserved
-loop-l-preserved c = passed_next _ _ _ _ _ c.loop-l.invariant c.loop-l-test.true c.if-x-last.false
-
-pub returns : goal.returns
-returns c =
-    rw c.wide.ensures (sym (passed_all _ _ _ _ _ _ c.loop-l.invariant c.loop-l-test.false))
+pub returns-else-not-is_sorted_by : goal.returns-else-not-is_sorted_by
+returns-else-not-is_sorted_by c =
+    last_decides _ _ _ c.last.result _ (ascends (goal.at.returns-else-not-is_sorted_by c).After-is_sorted_by)
+    c.if-not-is_sorted_by.false c.last.ensures.item.3 (search (rules, tests))

@@ -1,0 +1,15 @@
+-- `held::set_of` meets its contract: the search goes through the table of specs/. Assumes nothing.
+use Rattle.std.proofs.Common.{◌≡◌, refl, ap, map, rules, tests}
+use Rattle.std.proofs.lemmas.Iterator.{YieldsList-from_slice, first_from_find}
+use Rattle.std.specs.Slice.Iter.{iter_rest}
+use Rattle.held.specs.Held.{table}
+use Rattle.held.proofs.Lookup.{row, looked_up}
+use Rattle.held.proofs.set_of.Goals as goal
+
+pub returns : goal.returns
+returns c =
+    let same : map row (iter_rest c.iter.result) ≡ table = ap (map row) c.iter.ensures.rest in
+    looked_up _ _ c.args.v c.find.result _ same
+    (first_from_find _ _ c.find.result (λ x. x.v ≡ c.args.v) (λ x. x.v ≡ c.args.v → ⊥) c.find.ensures.ran
+    (YieldsList-from_slice (iter_rest c.iter.result) refl) (λ x q k. search (rules, tests)) (λ x q k. search (rules, tests)))
+    (search (rules, tests))
