@@ -1,7 +1,7 @@
 pub mod Places
+pub mod Blocks
 pub mod Bytes
 pub mod Starts
 pub mod Theorems
-pub mod Fronts
 pub mod Members
 pub mod WrittenSets

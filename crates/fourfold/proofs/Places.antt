@@ -1,7 +1,9 @@
 -- The four places of a write: each is one of the geometry's, and their ranges share no byte. Assumes nothing.
-use Prim.Native.Nat.{ℕ, ◌+◌, ◌≤◌, ◌<◌}
+use Prim.Native.Nat.{ℕ, suc, ◌+◌, ◌≤◌, ◌<◌}
+use lib.ListN.{length, drop}
 use mathlib.Core.Path.{◌≡◌, ap}
-use mathlib.Core.List.{List}
+use mathlib.Core.List.{List, [], ◌∷◌}
+use native.Mathlib.Omega.{arith}
 use Rattle.geometry.specs.declared.Geometry.{Geometry}
 use Rattle.geometry.specs.Geometry.{user_units_of, bytes_of}
 use Rattle.design.specs.Design.{Laid}
@@ -17,12 +19,12 @@ use Rattle.layout.specs.Ranges.{PlaceIn}
 use Rattle.layout.proofs.Places.{place_in}
 use Rattle.layout.proofs.SameDisk.{inner_of_in}
 use Rattle.layout.proofs.Theorems.{the_four_disks_differ}
-use Rattle.leaves.specs.Bytes.{Apart}
-use Rattle.leaves.specs.Bytes as bytes
-use Rattle.runs.proofs.Writes.{four_part}
+use Rattle.leaves.specs.Bytes.{Apart, Inside, FirstApart}
+use Rattle.runs.proofs.Writes.{apart_part}
 use Rattle.array.specs.Array.{start_of}
 use Rattle.array.proofs.Starts.{start_in, starts_apart}
 use Rattle.fourfold.specs.Ranges.{FourIn}
+use Rattle.fourfold.proofs.Bytes.{all_each}
 
 module _ (G : Geometry) (d : List ℕ) (L : Laid G d) (m : ℕ) (user : m < user_units_of G) where
   pub user_outer_in : CellIn G (user_outer G m)
@@ -48,23 +50,33 @@ module _ (G : Geometry) where
       (p q : Place) → PlaceIn G p → PlaceIn G q → (p.disk ≡ q.disk → ⊥) → Apart (start_of G p) G.u (start_of G q) G.u
   disks_apart p q h k differ = starts_apart G p q h k (λ (e : p ≡ q). differ (ap (λ (x : Place). x.disk) e))
 
-  -- the ranges that a write takes in an array of m bytes
-  pub four_runs :
-      (f : Four) → FourIn G f → (o n m : ℕ) → o + n ≤ G.u → m ≡ bytes_of G →
-      bytes.Four m (start_of G f.user + o) (start_of G f.outer + o) (start_of G f.inner + o) (start_of G f.both + o) n
-  four_runs f h o n m room e =
-      four_part m _ _ _ _ G.u o n
-      (rw e
-      (record {
-        inside =
-            record {
-              at_p = start_in G f.user h.user;
-              at_q = start_in G f.outer h.outer;
-              at_r = start_in G f.inner h.inner;
-              at_s = start_in G f.both h.both;
-            };
-        from_q = disks_apart f.user f.outer h.user h.outer h.apart.user_outer;
-        from_r = disks_apart f.user f.inner h.user h.inner h.apart.user_inner;
-        from_s = disks_apart f.user f.both h.user h.both h.apart.user_both;
-      }))
-      room
+  -- the ranges that a write takes
+  module _ (f : Four) (h : FourIn G f) (o n : ℕ) (room : o + n ≤ G.u) where
+    abbrev pub four_starts : List ℕ
+    four_starts = (start_of G f.user + o) ∷ (start_of G f.outer + o) ∷ (start_of G f.inner + o) ∷ (start_of G f.both + o) ∷ []
+
+    -- lie in an array of m bytes
+    pub four_inside : (m : ℕ) → m ≡ bytes_of G → Inside m four_starts n
+    four_inside m e = record {
+      inside =
+          all_each (λ (p : ℕ). p + n ≤ m) four_starts
+          (in_it f.user h.user, (in_it f.outer h.outer, (in_it f.inner h.inner, (in_it f.both h.both, tt))));
+    }
+      where
+        in_it : (p : Place) → PlaceIn G p → start_of G p + o + n ≤ m
+        in_it p k = omega (arith, start_in G p k)
+
+    -- and the data's lies apart from the others
+    pub four_apart : FirstApart four_starts n
+    four_apart = record {
+      first_apart =
+          λ (t : ℕ) (l : suc t < length four_starts).
+          all_each (λ (q : ℕ). Apart (start_of G f.user + o) n q n) (drop 1 four_starts) (
+            apart f.user f.outer h.user h.outer h.apart.user_outer,
+            (apart f.user f.inner h.user h.inner h.apart.user_inner, (apart f.user f.both h.user h.both h.apart.user_both, tt)),
+          )
+          t (omega arith);
+    }
+      where
+        apart : (p q : Place) → PlaceIn G p → PlaceIn G q → (p.disk ≡ q.disk → ⊥) → Apart (start_of G p + o) n (start_of G q + o) n
+        apart p q k l differ = apart_part _ G.u _ o n room (disks_apart p q k l differ)

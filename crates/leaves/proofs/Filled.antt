@@ -4,10 +4,10 @@ use mathlib.Core.Path.{◌≡◌, refl, sym, ◌∙◌, ap}
 use mathlib.Core.List.{List, [], ◌∷◌, ◌++◌}
 use native.Mathlib.Numerals.{add-one}
 use native.Mathlib.Omega.{arith}
-use lib.ListN.{get_or, length, set, take, drop, replicate, length-set, take-append-drop, drop_of_length-le}
+use lib.ListN.{get_or, length, set, take, drop, length-set, take-append-drop, drop_of_length-le}
 use lib.Bits.{bit_xor}
 use Rattle.leaves.specs.Bytes.{xors}
-use Rattle.leaves.proofs.Runs.{length_xors, at_xors, at_zeros}
+use Rattle.leaves.proofs.Runs.{length_xors, at_xors}
 
 -- the bytes at i: f's, then those of d₀
 pub record Filled (d₀ f d : List ℕ) (i : ℕ) : Type 0 where
@@ -74,9 +74,3 @@ filled_xor {d₀} {d} {i} y s h k =
 pub filled_difference :
     {d₀ d : List ℕ} {i : ℕ} (x y : List ℕ) → Filled d₀ (xors x y) d i → i < length d₀ → Filled d₀ (xors x y) (set d i (bit_xor (get_or x i 0) (get_or y i 0))) (i + 1)
 filled_difference {d₀} {d} {i} x y s h = filled_more s h _ (sym (at_xors x y i (omega (arith, s.whole, length_xors x y))))
-
--- one that stores zeros
-pub filled_zero :
-    {d d₀ : List ℕ} {i : ℕ} → Filled d₀ (replicate (length d₀) 0) d i → i < length d₀
-    → Filled d₀ (replicate (length d₀) 0) (set d i 0) (i + 1)
-filled_zero {d} {d₀} {i} s h = filled_more s h 0 (sym (at_zeros (length d₀) i))

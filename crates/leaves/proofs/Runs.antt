@@ -1,7 +1,8 @@
 -- Laws of runs: what each byte is, and the algebra of adding bytes at positions. Assumes nothing.
 use Prim.Native.Nat.{ℕ, zero, suc, ◌+◌, ◌-◌, ◌≤◌, ◌<◌, min}
 use mathlib.Core.Path.{◌≡◌, refl, sym, ◌∙◌, ap, ap₂}
-use mathlib.Core.List.{List, [], ◌∷◌, ◌++◌, map}
+use mathlib.Core.List.{List, [], ◌∷◌, ◌++◌, map, map-append}
+use Rattle.std.proofs.lemmas.List.{take_more}
 use mathlib.Core.Logic.{◌⊎◌, inl, inr, ⊎_elim}
 use native.Mathlib.Nat.{zero-add, add_assoc, suc-add, add-sub_cancel_left}
 use native.Mathlib.Decide.{dec_lt}
@@ -297,12 +298,15 @@ unfolding add_all
 add_all_add_at a [] e q f = refl
 add_all_add_at a (p ∷ ps) e q f = ap (λ (x : List ℕ). add_all x ps e) (add_at_comm a q f p e) ∙ add_all_add_at (add_at a p e) ps e q f
 
--- one position after the other
-pub add_all_four :
-    (a b c d x : List ℕ) (p q r s : ℕ) (e : List ℕ) → b ≡ add_at a p e → c ≡ add_at b q e → d ≡ add_at c r e → x ≡ add_at d s e → x ≡ add_all a (p ∷ q ∷ r ∷ s ∷ []) e
+-- nothing is added at no position, and behind the others at one more
+pub add_all_none : (a e : List ℕ) → add_all a [] e ≡ a
 unfolding add_all
-add_all_four a b c d x p q r s e hb hc hd hx =
-    hx ∙ ap (λ (l : List ℕ). add_at l s e) (hd ∙ ap (λ (l : List ℕ). add_at l r e) (hc ∙ ap (λ (l : List ℕ). add_at l q e) hb))
+add_all_none a e = refl
+
+add_all_last : (a ps : List ℕ) (q : ℕ) (e : List ℕ) → add_all a (ps ++ (q ∷ [])) e ≡ add_at (add_all a ps e) q e
+unfolding add_all
+add_all_last a [] q e = refl
+add_all_last a (p ∷ ps) q e = add_all_last (add_at a p e) ps q e
 
 pub add_all_zero : (a ps e : List ℕ) → ((i : ℕ) → get_or e i 0 ≡ 0) → add_all a ps e ≡ a
 unfolding add_all
@@ -315,6 +319,16 @@ add_all_nil a ps = add_all_zero a ps [] (λ i. refl)
 -- positions n further on
 abbrev pub further : ℕ → List ℕ → List ℕ
 further n ps = map (λ (p : ℕ). p + n) ps
+
+-- a loop over positions, i further on: the t-th is next
+pub add_all_more :
+    (a₀ ps e : List ℕ) (i t : ℕ) → t < length ps → {a b : List ℕ} → a ≡ add_all a₀ (further i (take t ps)) e
+    → b ≡ add_at a (get_or ps t 0 + i) e → b ≡ add_all a₀ (further i (take (t + 1) ps)) e
+add_all_more a₀ ps e i t h is next =
+    let f : further i (take (t + 1) ps) ≡ further i (take t ps) ++ ((get_or ps t 0 + i) ∷ []) =
+    ap (further i) (take_more ps t 0 h) ∙ map-append (λ (p : ℕ). p + i) (take t ps) (get_or ps t 0 ∷ []) in
+    next ∙ ap (λ (x : List ℕ). add_at x (get_or ps t 0 + i) e) is
+    ∙ sym (ap (λ (l : List ℕ). add_all a₀ l e) f ∙ add_all_last a₀ (further i (take t ps)) (get_or ps t 0 + i) e)
 
 -- two parts one behind the other
 pub add_all_append : (a ps e f : List ℕ) → add_all a ps (e ++ f) ≡ add_all (add_all a ps e) (further (length e) ps) f

@@ -1,16 +1,19 @@
 -- When the first n numbers of a family are all zero. Assumes nothing.
-use Prim.Native.Nat.{ℕ, ◌+◌, ◌-◌, ◌≤◌, ◌<◌}
+use Prim.Native.Nat.{ℕ, suc, ◌+◌, ◌-◌, ◌≤◌, ◌<◌}
 use mathlib.Core.Path.{◌≡◌, refl, sym, ◌∙◌, ap}
 use mathlib.Core.Bool.{Bool, true, false, not, ◌&&◌}
-use native.Mathlib.Nat.{add-zero}
+use mathlib.Core.List.{List, [], ◌∷◌}
+use Rattle.std.proofs.Math.Bool.{and_assoc, and-true}
+use Rattle.std.specs.List.{fold}
 use native.Mathlib.Decide.{dec_lt}
 use native.Mathlib.Omega.{arith}
 use lib.Bits.{bit_or}
 use lib.Dec.{eqb}
+use lib.ListN.{get_or, length}
 use borrow.Author.Tests.{eq-eqb, ne_eqb, eqb-true, not-true, not-false}
 use Rattle.counting.proofs.Bools.{and_both, both_and, and_left_false, not_is_true, not_is_false}
 use Rattle.counting.proofs.Laws.{any_none, none_any, any_true}
-use Rattle.leaves.specs.Bytes.{zero_below}
+use Rattle.leaves.specs.Bytes.{zero_below, all_zero}
 use Rattle.leaves.proofs.Xor.{or_is_zero}
 
 pub zero_holds : (f : ℕ → ℕ) (n : ℕ) → zero_below f n ≡ true → (i : ℕ) → i < n → f i ≡ 0
@@ -71,24 +74,20 @@ zero_one f =
     same_truth (zero_below f 1) (eqb (f 0) 0) (λ t. eq-eqb (f 0) 0 (zero_holds f 1 t 0 (omega arith)))
     (λ t. zero_is f 1 (λ (i : ℕ) (l : i < 1). let e : i ≡ 0 = omega arith in ap f e ∙ eqb-true (f 0) 0 t))
 
-pub zero_more : (f : ℕ → ℕ) (n : ℕ) → zero_below f (n + 1) ≡ (zero_below f n && eqb (f n) 0)
-zero_more f n =
-    zero_add f n 1
-    ∙ ap (λ (b : Bool). zero_below f n && b) (zero_one (λ (i : ℕ). f (n + i)) ∙ ap (λ (k : ℕ). eqb (f k) 0) (add-zero n))
+-- ---- the OR of a list
+all_zero_more : (x : ℕ) (xs : List ℕ) → all_zero (x ∷ xs) ≡ (eqb x 0 && all_zero xs)
+all_zero_more x xs =
+    let f : ℕ → ℕ = λ i. get_or (x ∷ xs) i 0 in
+    let e : suc (length xs) ≡ 1 + length xs = omega arith in
+    ap (zero_below f) e ∙ zero_add f 1 (length xs) ∙ ap (λ (b : Bool). b && zero_below (λ (i : ℕ). f (1 + i)) (length xs)) (zero_one f)
+    ∙ ap (λ (b : Bool). eqb x 0 && b)
+    (zero_same (λ (i : ℕ). f (1 + i)) (λ (i : ℕ). get_or xs i 0) (length xs) (λ i l. let k : 1 + i ≡ suc i = omega arith in ap f k))
 
--- ---- a loop that ORs the first n numbers: what holds at i
-pub record Ored (f : ℕ → ℕ) (n x i : ℕ) : Type 0 where
-  pub most : i ≤ n
-  pub is : eqb x 0 ≡ zero_below f i
+or_fold : (x : ℕ) (xs : List ℕ) → eqb (fold bit_or x xs) 0 ≡ (eqb x 0 && all_zero xs)
+or_fold x [] = sym (ap (λ (b : Bool). eqb x 0 && b) (zero_none _) ∙ and-true (eqb x 0))
+or_fold x (y ∷ ys) =
+    or_fold (bit_or x y) ys ∙ ap (λ (b : Bool). b && all_zero ys) (or_is_zero x y) ∙ and_assoc (eqb x 0) (eqb y 0) (all_zero ys)
+    ∙ ap (λ (b : Bool). eqb x 0 && b) (sym (all_zero_more y ys))
 
-pub ored_none : (f : ℕ → ℕ) (n : ℕ) → Ored f n 0 0
-ored_none f n = record { most = omega arith; is = sym (zero_none f) }
-
-pub ored_more : {f : ℕ → ℕ} {n x i : ℕ} → Ored f n x i → i < n → Ored f n (bit_or x (f i)) (i + 1)
-ored_more {f} {n} {x} {i} o h = record {
-  most = omega arith;
-  is = or_is_zero x (f i) ∙ ap (λ (b : Bool). b && eqb (f i) 0) o.is ∙ sym (zero_more f i);
-}
-
-pub ored_all : {f : ℕ → ℕ} {n x i : ℕ} → Ored f n x i → n ≤ i → eqb x 0 ≡ zero_below f n
-ored_all {f} {n} {x} {i} o h = let e : i ≡ n = omega (arith, o.most) in o.is ∙ ap (zero_below f) e
+pub zero_fold : (xs : List ℕ) → eqb (fold bit_or 0 xs) 0 ≡ all_zero xs
+zero_fold xs = or_fold 0 xs

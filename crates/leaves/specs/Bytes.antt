@@ -1,6 +1,6 @@
 -- XOR on runs of bytes inside one list: the arithmetic of both parities (000, 3.1: "P = B1 ⊕ B2 ⊕ .. ⊕ Bk"). Nothing here
 -- knows of disks. Assumes nothing.
-use Rattle.std.specs.Prelude.{ℕ, ◌+◌, ◌≤◌, ◌<◌, ◌≡◌, Bool, not, List, [], ◌∷◌, ◌++◌, ◌⊎◌, get_or, length, take, drop, replicate, eqb}
+use Rattle.std.specs.Prelude.{ℕ, suc, ◌+◌, ◌≤◌, ◌<◌, ◌≡◌, Bool, not, List, [], ◌∷◌, ◌++◌, ◌⊎◌, get_or, length, take, drop, replicate, eqb}
 use Rattle.std.specs.Int.Bits.{bit_xor}
 use Rattle.counting.specs.Counting.{any_below}
 use Rattle.counting.specs.Lists.{list_of}
@@ -73,16 +73,6 @@ pub record Inside (m : ℕ) (ps : List ℕ) (u : ℕ) : Type 0 where
 pub record Spread (ps : List ℕ) (u : ℕ) : Type 0 where
   pub spread : (s t : ℕ) → s < length ps → t < length ps → (s ≡ t → ⊥) → Apart (get_or ps s 0) u (get_or ps t 0) u
 
--- four runs of n bytes lie inside m bytes
-pub record FourInside (m p q r s n : ℕ) : Type 0 where
-  pub at_p : p + n ≤ m
-  pub at_q : q + n ≤ m
-  pub at_r : r + n ≤ m
-  pub at_s : s + n ≤ m
-
--- and the first lies apart from the other three
-pub record Four (m p q r s n : ℕ) : Type 0 where
-  pub inside : FourInside m p q r s n
-  pub from_q : Apart p n q n
-  pub from_r : Apart p n r n
-  pub from_s : Apart p n s n
+-- the first run of u bytes lies apart from each other one
+pub record FirstApart (ps : List ℕ) (u : ℕ) : Type 0 where
+  pub first_apart : (t : ℕ) → suc t < length ps → Apart (get_or ps 0 0) u (get_or ps (suc t) 0) u

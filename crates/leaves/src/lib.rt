@@ -10,10 +10,8 @@ pub fn xor_into(dst: &mut [u8], src: &[u8])
     requires { length src.now ≤ length dst.old }
     ensures { dst.new ≡ xors dst.old src.now }
 {
-    let mut i: usize = 0;
-    while i < src.len() {
-        dst[i] = dst[i] ^ src[i];
-        i += 1;
+    for i in 0..src.len() {
+        dst[i] ^= src[i];
     }
 }
 
@@ -22,22 +20,14 @@ pub fn copy_into(dst: &mut [u8], src: &[u8])
     requires { length src.now ≡ length dst.old }
     ensures { dst.new ≡ src.now }
 {
-    let mut at: usize = 0;
-    while at < src.len() {
-        dst[at] = src[at];
-        at += 1;
-    }
+    dst.copy_from_slice(src);
 }
 
 // Makes every byte zero.
 pub fn clear(dst: &mut [u8])
     ensures { dst.new ≡ replicate (length dst.old) 0 }
 {
-    let mut i: usize = 0;
-    while i < dst.len() {
-        dst[i] = 0;
-        i += 1;
-    }
+    dst.fill(0);
 }
 
 // The XOR of two runs, byte by byte: what a write of new over old changes.
@@ -45,10 +35,8 @@ pub fn difference(out: &mut [u8], old: &[u8], new: &[u8])
     requires { (length old.now ≡ length out.old) × (length new.now ≡ length out.old) }
     ensures { out.new ≡ xors old.now new.now }
 {
-    let mut i: usize = 0;
-    while i < out.len() {
-        out[i] = old[i] ^ new[i];
-        i += 1;
+    for (i, byte) in out.iter_mut().enumerate() {
+        *byte = old[i] ^ new[i];
     }
 }
 
@@ -56,11 +44,5 @@ pub fn difference(out: &mut [u8], old: &[u8], new: &[u8])
 pub fn zero(src: &[u8]) -> bool
     ensures { result ≡ all_zero src.now }
 {
-    let mut any: u8 = 0;
-    let mut i: usize = 0;
-    while i < src.len() {
-        any = any | src[i];
-        i += 1;
-    }
-    any == 0
+    src.iter().fold(0, |any, byte| any | byte) == 0
 }

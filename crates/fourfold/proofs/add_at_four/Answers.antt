@@ -1,38 +1,11 @@
--- `fourfold::add_at_four` meets its contract. Assumes nothing.
-use borrow.Author.Rules.{rules}
-use Rattle.fourfold.proofs.Fronts.{front_length, front_fits, four_fronts}
+-- `fourfold::add_at_four` meets its contract: after each start, the bytes are added at the starts up to there. Assumes nothing.
+use mathlib.Core.Path.{sym}
+use native.Mathlib.Omega.{arith}
+use Rattle.leaves.proofs.Runs.{add_all_none, add_all_more}
 use Rattle.fourfold.proofs.add_at_four.Goals as goal
 
-pub slice_bounds-add_run-end : goal.slice_bounds-add_run-end
-slice_bounds-add_run-end c = search (rules, front_length)
+pub loop-start-init : goal.loop-start-init
+loop-start-init c = sym (add_all_none _ _)
 
-pub add_run-requires : goal.add_run-requires
-add_run-requires c = search (rules, front_fits)
-
-pub slice_bounds-add_run-end-2 : goal.slice_bounds-add_run-end-2
-slice_bounds-add_run-end-2 c = search (rules, front_length)
-
-pub add_run-requires-2 : goal.add_run-requires-2
-add_run-requires-2 c = rw c.add_run.auto.array (search (rules, front_fits))
-
-pub slice_bounds-add_run-end-3 : goal.slice_bounds-add_run-end-3
-slice_bounds-add_run-end-3 c = search (rules, front_length)
-
-pub add_run-requires-3 : goal.add_run-requires-3
-add_run-requires-3 c =
-    rw (c.add_run-2.auto.array, c.add_run.auto.array) (search (rules, front_fits))
-
-pub slice_bounds-add_run-end-4 : goal.slice_bounds-add_run-end-4
-slice_bounds-add_run-end-4 c = search (rules, front_length)
-
-pub add_run-requires-4 : goal.add_run-requires-4
-add_run-requires-4 c =
-    rw (c.add_run-3.auto.array, c.add_run-2.auto.array, c.add_run.auto.array) (search (rules, front_fits))
-
-pub returns : goal.returns
-returns c =
-    four_fronts _ _ _ _ _ _ _ _ _ _
-    c.add_run.ensures
-    c.add_run-2.ensures
-    c.add_run-3.ensures
-    c.add_run-4.ensures
+pub loop-start-preserved : goal.loop-start-preserved
+loop-start-preserved c = add_all_more _ _ _ _ _ (omega arith) c.loop-start.invariant c.add_run.ensures

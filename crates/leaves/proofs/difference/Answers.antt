@@ -1,5 +1,4 @@
 -- `leaves::difference` meets its contract. Assumes nothing.
-use Prim.Native.Nat.{◌-◌}
 use mathlib.Core.Path.{◌∙◌}
 use Rattle.leaves.proofs.Runs.{length_xors}
 use Rattle.leaves.proofs.Filled.{filled_none, filled_difference, filled_all}

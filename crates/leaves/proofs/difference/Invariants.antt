@@ -1,12 +1,7 @@
 -- `leaves::difference` meets its contract. Assumes nothing.
-use Prim.Native.Nat.{◌-◌}
-use lib.ListN.{length}
 use Rattle.leaves.specs.Bytes.{xors}
 use Rattle.leaves.proofs.Filled.{Filled}
 use Rattle.leaves.proofs.difference.Given as goal
 
 abbrev pub invariant-loop-i : goal.invariant-loop-i
 invariant-loop-i l = Filled l.initial.out (xors l.old l.new) l.out l.i
-
-abbrev pub decreases-loop-i : goal.decreases-loop-i
-decreases-loop-i l = length l.initial.out - l.i

@@ -1,5 +1,4 @@
 -- `leaves::xor_into` meets its contract. Assumes nothing.
-use Prim.Native.Nat.{◌-◌}
 use Rattle.leaves.proofs.Runs.{length_xors}
 use Rattle.leaves.proofs.Filled.{filled_none, filled_xor, filled_rest, drop_xors}
 use Rattle.leaves.proofs.xor_into.Goals as goal

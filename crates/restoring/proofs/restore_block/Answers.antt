@@ -1,22 +1,11 @@
 -- `restoring::restore_block` meets its contract. Assumes nothing.
-use mathlib.Core.Path.{refl}
-use native.Mathlib.Omega.{arith}
-use Rattle.leaves.proofs.Runs.{at_zeros}
-use Rattle.restoring.proofs.Restored.{own_fits}
+use mathlib.Core.Path.{sym}
+use Rattle.leaves.proofs.Runs.{front_zeros, at_front_zeros}
 use Rattle.restoring.proofs.Blocks.{block_stored}
+use Rattle.restoring.specs.declared.TheConstants.{BLOCK}
 use Rattle.restoring.proofs.restore_block.Goals as goal
-
-pub overflow_add-p : goal.overflow_add-p
-overflow_add-p c = omega (arith, own_fits c.requires)
-
-pub overflow_add-end : goal.overflow_add-end
-overflow_add-end c = omega (arith, own_fits c.requires)
-
-pub slice_bounds-copy_into-end : goal.slice_bounds-copy_into-end
-slice_bounds-copy_into-end c =
-    omega (arith, own_fits c.requires)
 
 pub returns : goal.returns
 returns c =
-    block_stored _ _ _ _ _ _ _ 64 refl (at_zeros 64)
+    block_stored _ _ _ _ _ _ _ _ (sym (front_zeros BLOCK _ c.requires.0)) (at_front_zeros BLOCK c.args.n)
     c.gather_rest.ensures c.copy_into.ensures

@@ -1,10 +1,13 @@
 -- `restoring::restore_run` meets its contract: after each block, the first bytes of the unit are done. Assumes nothing.
-use Prim.Native.Nat.{◌-◌}
-use Rattle.restoring.proofs.Blocks.{Restoring}
+use Prim.Native.Nat.{◌*◌}
+use mathlib.Core.Path.{◌≡◌}
+use lib.ListN.{get_or}
+use Rattle.leaves.specs.Bytes.{sums}
+use Rattle.restoring.specs.Restore.{stored, rest_of}
+use Rattle.restoring.specs.declared.TheConstants.{BLOCK}
 use Rattle.restoring.proofs.restore_run.Given as goal
 
-abbrev pub invariant-loop-i : goal.invariant-loop-i
-invariant-loop-i l = Restoring l.initial.array l.starts l.own l.u l.array l.i
-
-abbrev pub decreases-loop-i : goal.decreases-loop-i
-decreases-loop-i l = l.u - l.i
+abbrev pub invariant-loop-block : goal.invariant-loop-block
+invariant-loop-block l =
+    l.array
+    ≡ stored l.initial.array (get_or l.starts l.own 0) (sums l.initial.array (rest_of l.starts l.own) 0 (BLOCK * l.block))

@@ -1,11 +1,9 @@
 -- `runs::gather` meets its contract: after each source, the sum of the sources up to there. Assumes nothing.
-use Prim.Native.Nat.{◌-◌}
-use lib.ListN.{length}
-use Rattle.runs.proofs.Gathered.{Gathered}
+use mathlib.Core.Path.{◌≡◌}
+use lib.ListN.{length, take}
+use Rattle.leaves.specs.Bytes.{xors, sums}
 use Rattle.runs.proofs.gather.Given as goal
 
-abbrev pub invariant-loop-t : goal.invariant-loop-t
-invariant-loop-t l = Gathered l.initial.room l.array l.starts l.i l.room l.t
-
-abbrev pub decreases-loop-t : goal.decreases-loop-t
-decreases-loop-t l = length l.starts - l.t
+abbrev pub invariant-loop-start : goal.invariant-loop-start
+invariant-loop-start l =
+    l.room ≡ xors l.initial.room (sums l.array (take l.start-index l.starts) l.i (length l.initial.room))
