@@ -32,16 +32,15 @@ use Rattle.layout.specs.Places.{place, place_of, four_of, role_at}
 use Rattle.layout.specs.Theorems.{FourApart}
 use Rattle.layout.proofs.Places.{place_in}
 use Rattle.layout.proofs.Theorems.{the_way_back_is_the_inverse, the_roles_of_the_four_places, the_four_disks_differ, no_two_user_units_share_a_place}
-use Rattle.address.specs.declared.Mapped.{Mapped}
-use Rattle.address.specs.declared.Mapped.TheVariants.{Places}
-use Rattle.address.specs.declared.Located.{Located}
-use Rattle.address.specs.declared.Located.TheVariants.{Has}
 use Rattle.address.proofs.Answers.{map_goes, map_accepted, role_goes, role_accepted}
-use Rattle.address.proofs.TwoResults.{MapAllowed, RoleAllowed, same_mapped, same_located}
+use Rattle.address.proofs.TwoResults.{MapAllowed, RoleAllowed}
+use Rattle.refusal.proofs.Same.{same_answer}
+use Rattle.std.specs.Prelude.{Result, Ok}
+use Rattle.refusal.specs.declared.Refusal.{Refusal}
 
 -- at this place the way back answers this role, and nothing else
 abbrev pub Answers : Lfts 1 → Geometry → Bor (List ℕ) → Place → Role → Type 0
-Answers κs G design p ρ = (r : Located) → RoleAllowed κs G design p.disk p.unit r → r ≡ Has ρ
+Answers κs G design p ρ = (r : Result Role Refusal) → RoleAllowed κs G design p.disk p.unit r → r ≡ Ok ρ
 
 -- the roles of the four places of user unit n: the unit itself, the outer parity of its label, and the inner parities of
 -- the diagonals on which the two lie
@@ -74,17 +73,17 @@ module _ (κs : Lfts 1) (G : Geometry) (design : Bor (List ℕ)) where
       Fine → (p : Place) (ρ : Role) → PlaceIn G p → role_at G design.now p.disk.0 p.unit.0 ≡ ρ
       → Answers κs G design p ρ
   answers e p ρ h q r allowed =
-      same_located r (Has ρ)
+      same_answer r (Ok ρ)
       (allowed ∙ role_goes G design.now p.disk.0 p.unit.0 _ e h.disk h.unit ∙ ap accepted q)
 
   -- the map's answer at n: none of 2 to 6 is due, n is a user unit, and the places are those of the layout
   pub mapped :
-      (n : UserUnit) (f : Four) → MapAllowed κs G design n (Places f)
+      (n : UserUnit) (f : Four) → MapAllowed κs G design n (Ok f)
       → Fine × (n.0 < user_units_of G) × (f ≡ four_of G design.now n.0)
   mapped n f p = map_accepted G design.now n.0 (four_of G design.now n.0) f (sym p)
 
   -- "the way back answers ..": what the map names, the way back names again
-  pub map_and_back : (n : UserUnit) (f : Four) → MapAllowed κs G design n (Places f) → Back κs G design n.0 f
+  pub map_and_back : (n : UserUnit) (f : Four) → MapAllowed κs G design n (Ok f) → Back κs G design n.0 f
   unfolding four_of user_outer
   map_and_back n f p =
       let m = mapped n f p in
@@ -102,14 +101,14 @@ module _ (κs : Lfts 1) (G : Geometry) (design : Bor (List ℕ)) where
       })
 
   -- the four places lie on four disks
-  pub map_four_disks : (n : UserUnit) (f : Four) → MapAllowed κs G design n (Places f) → FourApart f
+  pub map_four_disks : (n : UserUnit) (f : Four) → MapAllowed κs G design n (Ok f) → FourApart f
   map_four_disks n f p =
       let m = mapped n f p in
       subst⁻¹ FourApart m.2 (the_four_disks_differ G design.now (laid m.0) n.0 m.1)
 
   -- no two user units are mapped to one place
   pub map_apart :
-      (m n : UserUnit) (e f : Four) → MapAllowed κs G design m (Places e) → MapAllowed κs G design n (Places f)
+      (m n : UserUnit) (e f : Four) → MapAllowed κs G design m (Ok e) → MapAllowed κs G design n (Ok f)
       → e.user ≡ f.user → m ≡ n
   map_apart m n e f p q h =
       let a = mapped m e p in
@@ -120,8 +119,8 @@ module _ (κs : Lfts 1) (G : Geometry) (design : Bor (List ℕ)) where
 
   -- and what the way back calls user unit n is the place that the map names for n
   pub back_and_map :
-      (x : Disk) (y : UnitNumber) (n : UserUnit) → RoleAllowed κs G design x y (Has (User n)) → (r : Mapped) → MapAllowed κs G design n r
-      → (f : Four) × (r ≡ Places f) × (f.user ≡ record { disk = x; unit = y })
+      (x : Disk) (y : UnitNumber) (n : UserUnit) → RoleAllowed κs G design x y (Ok (User n)) → (r : Result Four Refusal) → MapAllowed κs G design n r
+      → (f : Four) × (r ≡ Ok f) × (f.user ≡ record { disk = x; unit = y })
   unfolding four_of cell_of
   back_and_map x y n p r q =
       let m = role_accepted G design.now x.0 y.0 (role_at G design.now x.0 y.0) (User n) (sym p) in
@@ -129,6 +128,6 @@ module _ (κs : Lfts 1) (G : Geometry) (design : Bor (List ℕ)) where
       let h : PlaceIn G (place x.0 y.0) = record { disk = m.1; unit = m.2 } in
       let low : n.0 < user_units_of G = subst⁻¹ (RoleIn G) m.3 (w.role (place x.0 y.0) h) in (
         four_of G design.now n.0,
-        same_mapped r (Places (four_of G design.now n.0)) (q ∙ map_goes G design.now n.0 _ m.0 low),
+        same_answer r (Ok (four_of G design.now n.0)) (q ∙ map_goes G design.now n.0 _ m.0 low),
         ap (λ (ρ : Role). place_of G design.now (cell_of G ρ)) m.3 ∙ w.again (place x.0 y.0) h,
       )

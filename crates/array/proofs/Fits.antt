@@ -8,9 +8,10 @@ use native.Mathlib.Omega.{arith}
 use lib.Dec.{leb, eqb}
 use lib.ListN.{get_or, length}
 use borrow.Author.Tests.{le-ltb, lt-ltb, leb-true, le-leb, lt-leb, eqb-true, eq-eqb, ne_eqb, ltb-true, ltb-false, not-false}
-use Rattle.counting.specs.Counting.{lowest, any_below}
+use Rattle.std.specs.Prelude.{Some, None}
+use Rattle.counting.specs.Counting.{lowest, any_below, first_below}
 use Rattle.counting.proofs.Bools.{and_both, both_and, and_left_false, and_right_false, not_is_true, not_is_false}
-use Rattle.counting.proofs.Laws.{any_none}
+use Rattle.counting.proofs.Laws.{any_none, first_some, first_silent}
 use Rattle.refusal.specs.Refusal.{Rule, rule, refused, accepted, verdict}
 use Rattle.refusal.proofs.Answer.{first, next, skip, stop, accepted_append, accepted_quiet}
 use Rattle.geometry.specs.declared.Geometry.{Geometry}
@@ -86,7 +87,7 @@ module _ (G : Geometry) (d : List ℕ) (bytes : ℕ) (marks : List ℕ) where
   pub marks_unfit : Fine → (length marks ≡ disks_of G → ⊥) → verdict (array_rules G d bytes marks) ≡ refused 7 0
   marks_unfit e h = seven e (and_right_false (array_fits G bytes) _ (ne_eqb (length marks) (disks_of G) h))
 
-  module _ (e : Fine) (fits : array_fits G bytes ≡ true) (long : length marks ≡ disks_of G) (high : ℕ) (is : high ≡ lowest (mark_high marks) (length marks)) where
+  module _ (e : Fine) (fits : array_fits G bytes ≡ true) (long : length marks ≡ disks_of G) where
     eight : verdict (array_rules G d bytes marks) ≡ verdict (eighth ∷ [])
     unfolding array_rules
     eight =
@@ -94,12 +95,17 @@ module _ (G : Geometry) (d : List ℕ) (bytes : ℕ) (marks : List ℕ) where
         ∙ next seventh (eighth ∷ []) tt (not_is_false _ (both_and _ _ fits (eq-eqb (length marks) (disks_of G) long)))
 
     -- by 8
-    pub marks_high : high < length marks → verdict (array_rules G d bytes marks) ≡ refused 8 high
-    marks_high h = eight ∙ rw (← is, lt-ltb high (length marks) h)
+    pub marks_high : (high : ℕ) → first_below (mark_high marks) (length marks) ≡ Some high → verdict (array_rules G d bytes marks) ≡ refused 8 high
+    marks_high high h = let w = first_some (mark_high marks) (length marks) high h in eight ∙ rw (w.0, ← w.1)
 
     -- not refused
-    pub array_fine : length marks ≤ high → verdict (array_rules G d bytes marks) ≡ accepted tt
-    array_fine h = eight ∙ rw (← is, le-ltb high (length marks) h)
+    pub marks_fine : first_below (mark_high marks) (length marks) ≡ None → verdict (array_rules G d bytes marks) ≡ accepted tt
+    marks_fine h = eight ∙ rw (first_silent (mark_high marks) (length marks) h)
+
+    pub array_fine :
+        (high : ℕ) → high ≡ lowest (mark_high marks) (length marks) → length marks ≤ high →
+        verdict (array_rules G d bytes marks) ≡ accepted tt
+    array_fine high is h = eight ∙ rw (← is, le-ltb high (length marks) h)
 
   -- what a call on the array may rely on
   pub record Ready : Type 0 where

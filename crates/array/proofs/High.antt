@@ -1,16 +1,21 @@
--- Whether some mark is above 1, mark by mark. Assumes nothing.
-use Prim.Native.Nat.{ℕ, suc, ◌+◌, ◌≤◌, ◌<◌}
-use mathlib.Core.Path.{◌≡◌, refl, sym, ap, ◌∙◌}
+-- Whether some mark is above 1, and the first that is. Assumes nothing.
+use Prim.Native.Nat.{ℕ, zero, suc, ◌+◌, ◌≤◌, ◌<◌}
+use mathlib.Core.Path.{◌≡◌, refl, sym, ap, subst, ◌∙◌}
 use mathlib.Core.Bool.{Bool, true, false, ◌||◌}
 use mathlib.Core.List.{List}
 use native.Mathlib.Numerals.{add-one}
 use native.Mathlib.Omega.{arith}
-use lib.ListN.{length, get_or}
+use lib.ListN.{length, take}
+use Rattle.std.proofs.Math.Seq.{take-length}
 use lib.Dec.{ltb}
 use borrow.Author.Tests.{lt-ltb, le-ltb, ltb-true}
-use Rattle.counting.specs.Counting.{lowest, any_below}
-use Rattle.counting.proofs.Laws.{any_none, lowest_none}
+use Rattle.std.specs.Prelude.{Option, Some, None, MatchOption, fold}
+use Rattle.std.specs.List.{AllWithin, HoldsAt}
+use Rattle.std.proofs.lemmas.List.Sums.{fold_more}
+use Rattle.counting.specs.Counting.{lowest, any_below, first_below}
+use Rattle.counting.proofs.Laws.{first_is, first_none}
 use Rattle.array.specs.Rules.{mark_high}
+use Rattle.array.proofs.Fits.{mark_high_lem, mark_low}
 
 -- one number more
 any_more : (f : ℕ → Bool) (n : ℕ) → any_below f (n + 1) ≡ (any_below f n || f n)
@@ -24,26 +29,26 @@ any_more f n = go (ltb (lowest f n) n) refl (f n) refl
     go false p true q = rw (add-one n, p, q) (lt-ltb n (suc n) (omega arith))
     go false p false q = rw (add-one n, p, q) (le-ltb (suc n) (suc n) (omega arith))
 
--- x marks are looked at
-pub record Looked (marks : List ℕ) (found : Bool) (x : ℕ) : Type 0 where
-  pub most : x ≤ length marks
-  pub is : found ≡ any_below (mark_high marks) x
+-- found among the first x marks
+abbrev pub found : List ℕ → Bool
+found = fold (λ (b : Bool) (m : ℕ). b || ltb 1 m) false
 
-pub looked_none : (marks : List ℕ) → Looked marks false 0
-unfolding lowest
-looked_none marks = record { most = omega arith; is = refl }
+looked : (marks : List ℕ) (x : ℕ) → x ≤ length marks → found (take x marks) ≡ any_below (mark_high marks) x
+unfolding lowest mark_high
+looked marks zero h = refl
+looked marks (suc x) h =
+    subst (λ (n : ℕ). found (take n marks) ≡ any_below (mark_high marks) n) (add-one x)
+    (fold_more (λ (b : Bool) (m : ℕ). b || ltb 1 m) false marks x 0 h
+    ∙ ap (λ (b : Bool). b || mark_high marks x) (looked marks x (omega arith)) ∙ sym (any_more (mark_high marks) x))
 
-pub looked_more :
-    {marks : List ℕ} {found : Bool} {x : ℕ} → Looked marks found x → x < length marks →
-    Looked marks (found || ltb 1 (get_or marks x 0)) (x + 1)
-unfolding mark_high
-looked_more {marks} {found} {x} h l =
-    record { most = omega arith; is = ap (λ (b : Bool). b || mark_high marks x) h.is ∙ sym (any_more (mark_high marks) x) }
+pub looked_all : (marks : List ℕ) → found marks ≡ any_below (mark_high marks) (length marks)
+looked_all marks = ap found (sym (take-length marks)) ∙ looked marks (length marks) (omega arith)
 
-pub looked_all : {marks : List ℕ} {found : Bool} {x : ℕ} → Looked marks found x → length marks ≤ x → found ≡ any_below (mark_high marks) (length marks)
-looked_all {marks} {found} {x} h l =
-    let e : x ≡ length marks = omega (arith, h.most) in h.is ∙ ap (any_below (mark_high marks)) e
-
--- none is, so the lowest is past the end
-pub none_high : (marks : List ℕ) → any_below (mark_high marks) (length marks) ≡ false → length marks ≡ lowest (mark_high marks) (length marks)
-none_high marks e = sym (lowest_none (mark_high marks) (length marks) (any_none (mark_high marks) (length marks) e))
+-- the first mark above 1, if there is one
+pub first_is_lowest :
+    (marks : List ℕ) (r : Option ℕ)
+    → MatchOption r (AllWithin (λ m. m ≤ 1) marks 0 (length marks)) (λ x. (x < length marks) × HoldsAt (λ m. 1 < m) marks x × AllWithin (λ m. m ≤ 1) marks 0 x)
+    → r ≡ first_below (mark_high marks) (length marks)
+first_is_lowest marks None h = sym (first_none _ (length marks) (λ i p. mark_low marks i (h i 0 (omega arith) p)))
+first_is_lowest marks (Some x) h =
+    sym (first_is _ (length marks) x h.0 (mark_high_lem marks x (h.1 0)) (λ i p. mark_low marks i (h.2 i 0 (omega arith) p)))

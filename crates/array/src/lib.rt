@@ -2,17 +2,17 @@
 #![tactic(auto)]
 
 ghost use Rattle.std.specs.Prelude.{◌+◌, ◌≤◌, ◌<◌, ◌≡◌, ltb, length};
-ghost use Rattle.counting.specs.Counting.{lowest, any_below};
-ghost use Rattle.refusal.specs.Refusal.{verdict, kept, checked_outcome};
+ghost use Rattle.counting.specs.Counting.{any_below, first_below};
+ghost use Rattle.refusal.specs.Refusal.{verdict, kept, outcome_of};
 ghost use Rattle.geometry.specs.Geometry.{Sound, bytes_of};
 ghost use Rattle.layout.specs.Marks.{lost};
 ghost use Rattle.layout.specs.Ranges.{PlaceIn};
 ghost use Rattle.array.specs.Array.{start_of, formatted_array, formatted_marks};
 ghost use Rattle.array.specs.Rules.{array_fits, mark_high, array_rules, range_rules};
 
-use geometry::{Geometry, UserUnit};
+use geometry::{Disk, Geometry, UserUnit};
 use layout::Place;
-use refusal::{Checked, Refusal};
+use refusal::Refusal;
 
 // Where a unit's first byte lies. The number of a unit fits 32 bits, that of a byte need not.
 pub fn start_of(geometry: Geometry, place: Place) -> usize
@@ -40,61 +40,40 @@ pub fn array_fits(geometry: Geometry, bytes: usize) -> bool
 fn any_high(marks: &[u8]) -> bool
     ensures { result ≡ any_below (mark_high marks.now) (length marks.now) }
 {
-    let mut found = false;
-    let mut x: usize = 0;
-    while x < marks.len() {
-        found = found | (1 < marks[x]);
-        x += 1;
-    }
-    found
+    marks.iter().fold(false, |found, mark| found | (1 < *mark))
 }
 
-// The lowest disk with a mark above 1, and the number of marks where there is none. It is searched for only if there is one.
-fn first_high(marks: &[u8]) -> usize
-    ensures { result ≡ lowest (mark_high marks.now) (length marks.now) }
+// The lowest disk with a mark above 1. It is searched for only if there is one.
+fn first_high(marks: &[u8]) -> Option<usize>
+    ensures { result ≡ first_below (mark_high marks.now) (length marks.now) }
 {
-    if !any_high(marks) {
-        return marks.len();
+    if any_high(marks) {
+        marks.iter().position(|mark| 1 < *mark)
+    } else {
+        None
     }
-    let mut x: usize = 0;
-    while x < marks.len() {
-        if 1 < marks[x] {
-            return x;
-        }
-        x += 1;
-    }
-    marks.len()
 }
 
 // Refusals 2 to 8, which every call that is lent the array and the marks tests first.
-pub fn check_array(geometry: Geometry, design: &[u16], bytes: usize, marks: &[u8]) -> Checked
-    ensures { checked_outcome result ≡ verdict (array_rules geometry design.now bytes marks.now) }
+pub fn check_array(
+    geometry: Geometry,
+    design: &[u16],
+    bytes: usize,
+    marks: &[u8],
+) -> Result<(), Refusal>
+    ensures { outcome_of result ≡ verdict (array_rules geometry design.now bytes marks.now) }
 {
-    let checked = sizes::check_sizes(geometry, design);
-    match checked {
-        Checked::Refused(x) => {
-            return Checked::Refused(x);
-        }
-        Checked::Fine => {}
-    }
+    sizes::check_sizes(geometry, design)?;
     if !array_fits(geometry, bytes) {
-        return Checked::Refused(Refusal {
-            number: 7,
-            place: 0,
-        });
+        return Err(Refusal::WrongLength);
     }
     if marks.len() != geometry.disks() as usize {
-        return Checked::Refused(Refusal {
-            number: 7,
-            place: 0,
-        });
+        return Err(Refusal::WrongLength);
     }
-    let high = first_high(marks);
-    if high < marks.len() {
-        let place = high as u32;
-        return Checked::Refused(Refusal { number: 8, place });
+    if let Some(high) = first_high(marks) {
+        return Err(Refusal::HighMark(Disk(high as u32)));
     }
-    Checked::Fine
+    Ok(())
 }
 
 // Whether the unit at a place is lost.
@@ -118,37 +97,35 @@ fn leaves_unit(u: u32, offset: u64, length: usize) -> bool
 }
 
 // Refusals 10 and 11, of a range of one user unit.
-pub fn check_range(geometry: Geometry, n: UserUnit, offset: u64, length: usize) -> Checked
+pub fn check_range(
+    geometry: Geometry,
+    n: UserUnit,
+    offset: u64,
+    length: usize,
+) -> Result<(), Refusal>
     requires { Sound geometry }
-    ensures { checked_outcome result ≡ verdict (range_rules geometry n.0 offset length) }
+    ensures { outcome_of result ≡ verdict (range_rules geometry n.0 offset length) }
 {
     if geometry.user_units() <= n.0 {
-        return Checked::Refused(Refusal {
-            number: 10,
-            place: 0,
-        });
+        return Err(Refusal::UserUnitTooHigh);
     }
     if leaves_unit(geometry.u, offset, length) {
-        return Checked::Refused(Refusal {
-            number: 11,
-            place: 0,
-        });
+        return Err(Refusal::LeavesUnit);
     }
-    Checked::Fine
+    Ok(())
 }
 
 // "Format: all array bytes become zero, all marks 0", or the refusal: 2 to 8.
-pub fn format(geometry: Geometry, design: &[u16], array: &mut [u8], marks: &mut [u8]) -> Checked
-    ensures { (checked_outcome result ≡ verdict (array_rules geometry design.now (length array.old) marks.old)) × (array.new ≡ kept (verdict (array_rules geometry design.now (length array.old) marks.old)) (formatted_array geometry) array.old) × (marks.new ≡ kept (verdict (array_rules geometry design.now (length array.old) marks.old)) (formatted_marks geometry) marks.old) }
+pub fn format(
+    geometry: Geometry,
+    design: &[u16],
+    array: &mut [u8],
+    marks: &mut [u8],
+) -> Result<(), Refusal>
+    ensures { (outcome_of result ≡ verdict (array_rules geometry design.now (length array.old) marks.old)) × (array.new ≡ kept (verdict (array_rules geometry design.now (length array.old) marks.old)) (formatted_array geometry) array.old) × (marks.new ≡ kept (verdict (array_rules geometry design.now (length array.old) marks.old)) (formatted_marks geometry) marks.old) }
 {
-    let checked = check_array(geometry, design, array.len(), &marks[..]);
-    match checked {
-        Checked::Refused(x) => {
-            return Checked::Refused(x);
-        }
-        Checked::Fine => {}
-    }
+    check_array(geometry, design, array.len(), &marks[..])?;
     leaves::clear(array);
     leaves::clear(marks);
-    Checked::Fine
+    Ok(())
 }

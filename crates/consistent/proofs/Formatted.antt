@@ -7,7 +7,6 @@ use lib.Bits.{bit_xor, xor_zero_r}
 use lib.ListN.{replicate}
 use contract.Lifetimes.{Lfts}
 use denote.Ref.{Bor, MutBor}
-use Rattle.refusal.specs.declared.Checked.TheVariants.{Fine}
 use Rattle.geometry.specs.declared.Geometry.{Geometry}
 use Rattle.geometry.specs.Geometry.{bytes_of}
 use Rattle.leaves.specs.Bytes.{sum_at}
@@ -18,6 +17,7 @@ use Rattle.array.proofs.TwoResults.{FormatAllowed}
 use Rattle.array.proofs.Exact.{format_accepted}
 use Rattle.consistent.specs.Consistent.{set_starts, set_zero, Consistent}
 use Rattle.consistent.specs.Theorems.{AFormattedArrayIsConsistent}
+use Rattle.std.specs.Prelude.{Ok}
 
 pub sum_zeros : (n : ℕ) (ps : List ℕ) (i : ℕ) → sum_at (replicate n 0) ps i ≡ 0
 unfolding sum_at
@@ -32,7 +32,7 @@ a_formatted_array_is_consistent G d s h =
 
 pub format_is_consistent :
     (κs : Lfts 3) (G : Geometry) (design : Bor (List ℕ)) (array marks a m : MutBor (List ℕ)) →
-    FormatAllowed κs G design array marks Fine a m →
+    FormatAllowed κs G design array marks (Ok tt) a m →
     Consistent G design.now a.now
 format_is_consistent κs G design array marks a m p =
     subst (λ (x : List ℕ). Consistent G design.now x) (sym (format_accepted κs G design array marks a m p).0)

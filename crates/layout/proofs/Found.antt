@@ -1,11 +1,14 @@
 -- What the scans find is what 01 names: a region's group and part, and the cell at a place. Assumes nothing.
 use Prim.Native.Nat.{ℕ, ◌+◌, ◌*◌, ◌/◌, ◌%◌, ◌≤◌, ◌<◌}
-use mathlib.Core.Path.{◌≡◌, ap, ◌∙◌}
+use mathlib.Core.Path.{◌≡◌, refl, ◌∙◌}
 use mathlib.Core.List.{List}
 use native.Mathlib.Nat.{mul-le-mul_right, div-le_self}
 use native.Mathlib.Omega.{arith}
 use lib.ListN.{get_or, length}
-use Rattle.counting.specs.Counting.{count_below, nth_below}
+use borrow.Author.Tests.{lt-ltb}
+use borrow.Author.Rules.{rules}
+use Rattle.std.specs.Prelude.{Some, IsSome}
+use Rattle.counting.specs.Counting.{count_below, first_below}
 use Rattle.geometry.specs.declared.Geometry.{Geometry}
 use Rattle.geometry.specs.Geometry.{Sound, tuples_of, disks_of, units_of}
 use Rattle.geometry.proofs.Laws.{entries_bound, disks_bound, units_bound}
@@ -22,6 +25,7 @@ use Rattle.layout.specs.declared.Pair.{Pair}
 use Rattle.layout.specs.Regions.{region, part_of, tuple_of, position_of, region_of}
 use Rattle.layout.specs.Places.{in_region, place_of, cell_at, pair_of, four_of}
 use Rattle.layout.specs.Ranges.{RegionIn}
+use Rattle.layout.proofs.Scanned.{is_part}
 use Rattle.layout.proofs.Regions.{part_in_rows}
 use Rattle.layout.proofs.Places.{disk_group, unit_part}
 
@@ -59,21 +63,28 @@ module _ (G : Geometry) (d : List ℕ) (L : Laid G d) where
   )
 
   -- the entry of the group's part, taken apart into row and position
-  module _ (x y e : ℕ) (hx : x < disks_of G) (hy : y < units_of G) (found : e ≡ nth_below (is_entry d (x / G.g)) (length d) (y / G.g)) where
+  module _ (x y : ℕ) (hx : x < disks_of G) (hy : y < units_of G) where
     there : PartEntry G.k (tuples_of G) d (x / G.g) (y / G.g)
     there =
         part_entry G.v G.k (tuples_of G) d L.design (x / G.g) (y / G.g)
         (part_in_rows G d L (x / G.g) (y / G.g) (disk_group G d L x y hx hy) (unit_part G d L x y hx hy))
 
-    at_entry : e ≡ entry_of G.k (tuples_of G) d (x / G.g) (y / G.g)
-    at_entry = found ∙ ap (λ (n : ℕ). nth_below (is_entry d (x / G.g)) n (y / G.g)) L.design.size
+    entry_is : first_below (is_part d (x / G.g) (y / G.g)) (length d) ≡ Some (entry_of G.k (tuples_of G) d (x / G.g) (y / G.g))
+    entry_is = rw (L.design.size, lt-ltb _ _ there.entry_lt) refl
 
-    pub cell_found : cell (e / G.k) (e % G.k) (y % G.g) (x % G.g) ≡ cell_at G d x y
-    unfolding cell_at tuple_of position_of
-    cell_found = rw (at_entry, there.entry_row, there.entry_position)
+    pub entry_there : IsSome (first_below (is_part d (x / G.g) (y / G.g)) (length d))
+    entry_there = rw entry_is (search rules)
 
-    pub entry_high : e ≤ 8190
-    entry_high = omega (arith, at_entry, there.entry_lt, entries_high G L.sound)
+    module _ (e : ℕ) (found : Some e ≡ first_below (is_part d (x / G.g) (y / G.g)) (length d)) where
+      at_entry : e ≡ entry_of G.k (tuples_of G) d (x / G.g) (y / G.g)
+      at_entry = let h = entry_is in cc
+
+      pub cell_found : cell (e / G.k) (e % G.k) (y % G.g) (x % G.g) ≡ cell_at G d x y
+      unfolding cell_at tuple_of position_of
+      cell_found = rw (at_entry, there.entry_row, there.entry_position)
+
+      pub entry_high : e ≤ 8190
+      entry_high = omega (arith, at_entry, there.entry_lt, entries_high G L.sound)
 
 -- a cell lies in its region, at its row and column
 module _ (G : Geometry) (d : List ℕ) (x : Cell) (a : Region) (region : a ≡ region_of G d x.tuple.0 x.position) where

@@ -1,6 +1,6 @@
 // The design's list, scanned entry by entry for a group.
-ghost use Rattle.std.specs.Prelude.{ℕ, ◌≤◌, ◌<◌, ◌≡◌, get_or, length, eqb};
-ghost use Rattle.counting.specs.Counting.{count_below, nth_below};
+ghost use Rattle.std.specs.Prelude.{ℕ, ◌≤◌, ◌<◌, ◌≡◌, ◌&&◌, get_or, length, eqb};
+ghost use Rattle.counting.specs.Counting.{count_below, first_below};
 
 use geometry::{Group, Part};
 
@@ -11,33 +11,30 @@ pub fn count_entries(design: &[u16], a: Group, end: usize) -> u16
 {
     let name = a.0 as u16;
     let mut n: u16 = 0;
-    let mut i: usize = 0;
-    while i < end {
-        if design[i] == name {
+    for entry in &design[..end] {
+        if *entry == name {
             n += 1;
         }
-        i += 1;
     }
     n
 }
 
 // The p-th entry, from 0, that is the group.
-pub fn find_entry(design: &[u16], a: Group, p: Part) -> usize
+pub fn find_entry(design: &[u16], a: Group, p: Part) -> Option<usize>
     requires { (length design.now ≤ 8190) × (a.0 ≤ 65535) × (p.0 ≤ 65535) }
-    ensures { result ≡ nth_below (λ (e : ℕ). eqb (get_or design.now e 0) a.0) (length design.now) p.0 }
+    ensures { let is_group = λ (e : ℕ). eqb (get_or design.now e 0) a.0 in
+        result ≡ first_below (λ (e : ℕ). is_group e && eqb (count_below is_group e) p.0) (length design.now) }
 {
     let name = a.0 as u16;
     let wanted = p.0 as u16;
     let mut n: u16 = 0;
-    let mut at: usize = 0;
-    while at < design.len() {
-        if design[at] == name {
+    for (at, entry) in design.iter().enumerate() {
+        if *entry == name {
             if n == wanted {
-                return at;
+                return Some(at);
             }
             n += 1;
         }
-        at += 1;
     }
-    at
+    None
 }

@@ -2,7 +2,7 @@
 #![tactic(auto)]
 
 ghost use Rattle.std.specs.Prelude.{◌+◌, ◌≤◌, ◌<◌, ◌≡◌, [], ◌∷◌, length};
-ghost use Rattle.refusal.specs.Refusal.{verdict, kept, checked_outcome};
+ghost use Rattle.refusal.specs.Refusal.{verdict, kept, outcome_of};
 ghost use Rattle.geometry.specs.Geometry.{Sound, bytes_of};
 ghost use Rattle.layout.specs.Ranges.{PlaceIn};
 ghost use Rattle.leaves.specs.Bytes.{run};
@@ -10,8 +10,8 @@ ghost use Rattle.array.specs.Array.{start_of};
 ghost use Rattle.reading.specs.Reading.{read_of, mark_rule, read_rules};
 
 use geometry::{Geometry, UserUnit};
-use layout::Place;
-use refusal::{Checked, Refusal};
+use layout::{Layout, Place};
+use refusal::Refusal;
 
 // Copies a range of the unit at a place.
 fn copy_range(geometry: Geometry, array: &[u8], place: Place, offset: u64, out: &mut [u8])
@@ -24,18 +24,14 @@ fn copy_range(geometry: Geometry, array: &[u8], place: Place, offset: u64, out: 
 }
 
 // Refusal 12: the disk of the place is marked.
-fn check_mark(geometry: Geometry, marks: &[u8], place: Place) -> Checked
+fn check_mark(geometry: Geometry, marks: &[u8], place: Place) -> Result<(), Refusal>
     requires { place.disk.0 < length marks.now }
-    ensures { checked_outcome result ≡ verdict (mark_rule geometry marks.now place ∷ []) }
+    ensures { outcome_of result ≡ verdict (mark_rule geometry marks.now place ∷ []) }
 {
     if array::is_lost(geometry, marks, place) {
-        let why = Refusal {
-            number: 12,
-            place: place.disk.0,
-        };
-        return Checked::Refused(why);
+        return Err(Refusal::Marked(place.disk));
     }
-    Checked::Fine
+    Ok(())
 }
 
 // "Read: a byte range of one user unit into a lent buffer whose length is the range's length", or the refusal: 2 to 8, 10 to 12.
@@ -47,31 +43,14 @@ pub fn read(
     n: UserUnit,
     offset: u64,
     out: &mut [u8],
-) -> Checked
-    ensures { (checked_outcome result ≡ verdict (read_rules geometry design.now (length array.now) marks.now n.0 offset (length out.old))) × (out.new ≡ kept (verdict (read_rules geometry design.now (length array.now) marks.now n.0 offset (length out.old))) (read_of geometry design.now array.now n.0 offset (length out.old)) out.old) }
+) -> Result<(), Refusal>
+    ensures { (outcome_of result ≡ verdict (read_rules geometry design.now (length array.now) marks.now n.0 offset (length out.old))) × (out.new ≡ kept (verdict (read_rules geometry design.now (length array.now) marks.now n.0 offset (length out.old))) (read_of geometry design.now array.now n.0 offset (length out.old)) out.old) }
 {
-    let checked = array::check_array(geometry, design, array.len(), marks);
-    match checked {
-        Checked::Refused(x) => {
-            return Checked::Refused(x);
-        }
-        Checked::Fine => {}
-    }
-    let ranged = array::check_range(geometry, n, offset, out.len());
-    match ranged {
-        Checked::Refused(x) => {
-            return Checked::Refused(x);
-        }
-        Checked::Fine => {}
-    }
-    let place = layout::place_of(geometry, design, cells::user_cell(geometry, n));
-    let marked = check_mark(geometry, marks, place);
-    match marked {
-        Checked::Refused(x) => {
-            return Checked::Refused(x);
-        }
-        Checked::Fine => {}
-    }
+    array::check_array(geometry, design, array.len(), marks)?;
+    array::check_range(geometry, n, offset, out.len())?;
+    let layout = Layout { geometry, design };
+    let place = layout.place_of(cells::user_cell(geometry, n));
+    check_mark(geometry, marks, place)?;
     copy_range(geometry, array, place, offset, out);
-    Checked::Fine
+    Ok(())
 }

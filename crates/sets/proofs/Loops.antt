@@ -1,5 +1,5 @@
 -- The loops that fill a list with a tuple's regions, a label's units or a diagonal's units. Assumes nothing.
-use Prim.Native.Nat.{ℕ, ◌+◌, ◌*◌, ◌%◌, ◌≤◌, ◌<◌}
+use Prim.Native.Nat.{ℕ, ◌+◌, ◌*◌, ◌%◌, ◌<◌}
 use mathlib.Core.Path.{◌≡◌, sym, ap, ◌∙◌}
 use mathlib.Core.List.{List}
 use native.Mathlib.Nat.{mod-eq_of_lt, mod-add-mod}
@@ -10,7 +10,7 @@ use Rattle.geometry.specs.Geometry.{Sound}
 use Rattle.region.specs.Columns.{label_column, diagonal_column}
 use Rattle.cells.specs.Cells.{cell}
 use Rattle.region.proofs.Turns.{label_column_lt, diagonal_column_lt}
-use Rattle.leaves.proofs.Filled.{Filled, filled_none, filled_more, filled_all}
+use Rattle.leaves.proofs.Filled.{Filled, filled_none, filled_more}
 use Rattle.array.specs.Array.{cell_start}
 use Rattle.sets.specs.Starts.{region_starts, unit_from, label_starts, diagonal_starts}
 use Rattle.sets.proofs.Starts.{region_length, region_start_at, label_length, label_at, diagonal_length, diagonal_at}
@@ -57,18 +57,14 @@ module _ {G : Geometry} (s : Sound G) {ps : List ℕ} {i c : ℕ} {xs : List ℕ
     labels_column = let p : 0 < G.g = omega (arith, s.g_low) in rw f.column (label_column_lt G.g l i c p)
 
     pub labels_more :
-        l < length ys → (v y : ℕ) → v ≡ unit_from G (get_or ps l 0) i x → y ≡ (x + i) % G.g
+        l < G.k → (v y : ℕ) → v ≡ unit_from G (get_or ps l 0) i x → y ≡ (x + i) % G.g
         → Labels G ps i c xs (set ys l v) y (l + 1)
     labels_more h v y e m =
-        let k : l < G.k = omega (arith, f.filled.long) in
         record {
-          filled = filled_more f.filled (omega (arith, f.filled.long)) v
-              (e ∙ ap (unit_from G (get_or ps l 0) i) f.column ∙ sym (label_at G s ps i c l k));
+          filled = filled_more f.filled (omega arith) v
+              (e ∙ ap (unit_from G (get_or ps l 0) i) f.column ∙ sym (label_at G s ps i c l h));
           column = m ∙ ap (λ (a : ℕ). (a + i) % G.g) f.column ∙ label_next G.g l i c;
         }
-
-    pub labels_all : length ys ≤ l → ys ≡ label_starts G ps i c
-    labels_all h = filled_all f.filled (omega (arith, f.filled.long))
 
 -- ---- the units of a diagonal
 module _ (G : Geometry) (p j : ℕ) (xs : List ℕ) where
@@ -92,6 +88,3 @@ module _ {G : Geometry} (s : Sound G) {p j : ℕ} {xs : List ℕ} (n : length xs
               (e ∙ ap (unit_from G p i) f.column ∙ sym (diagonal_at G s p j i h));
           column = m ∙ ap (λ (a : ℕ). (a + 1) % G.g) f.column ∙ diagonal_next G.g j i;
         }
-
-    pub diagonals_all : G.g ≤ i → ys ≡ diagonal_starts G p j
-    diagonals_all h = filled_all f.filled (omega arith)

@@ -1,9 +1,8 @@
 // Where the units of a tuple's sets begin. The design is read once for each region of a tuple, never for a set or a unit.
 #![tactic(auto)]
 
-ghost use Rattle.std.specs.Prelude.{◌+◌, ◌*◌, ◌%◌, ◌≤◌, ◌<◌, ◌≡◌, length};
+ghost use Rattle.std.specs.Prelude.{◌≤◌, ◌<◌, ◌≡◌, length};
 ghost use Rattle.geometry.specs.Geometry.{Sound, tuples_of};
-ghost use Rattle.design.specs.Design.{Laid};
 ghost use Rattle.cells.specs.Cells.{cell};
 ghost use Rattle.layout.specs.Ranges.{RegionIn};
 ghost use Rattle.array.specs.Array.{cell_start};
@@ -11,37 +10,29 @@ ghost use Rattle.sets.specs.Starts.{region_starts, disk_bytes, unit_from, label_
 
 use cells::Cell;
 use geometry::{Geometry, Tuple};
+use layout::Layout;
 
 // Where a region begins: its row 0, column 0.
-fn region_start(geometry: Geometry, design: &[u16], tuple: Tuple, position: u32) -> usize
-    requires laid { Laid geometry design.now }
-    requires region_in { RegionIn geometry tuple.0 position }
-    ensures { result ≡ cell_start geometry design.now (cell tuple.0 position 0 0) }
+fn region_start(layout: &Layout, tuple: Tuple, position: u32) -> usize
+    requires { RegionIn layout.now.geometry tuple.0 position }
+    ensures { result ≡ cell_start layout.now.geometry layout.now.design.now (cell tuple.0 position 0 0) }
 {
-    let place = layout::place_of(
-        geometry,
-        design,
-        Cell {
-            tuple,
-            position,
-            row: 0,
-            column: 0,
-        },
-    );
-    array::start_of(geometry, place)
+    let place = layout.place_of(Cell {
+        tuple,
+        position,
+        row: 0,
+        column: 0,
+    });
+    array::start_of(layout.geometry, place)
 }
 
 // Where the regions of a tuple begin, by position.
-pub fn region_starts(geometry: Geometry, design: &[u16], tuple: Tuple, starts: &mut [usize])
-    requires laid { Laid geometry design.now }
-    requires tuple_bound { (tuple.0 < tuples_of geometry) × (length starts.old ≡ geometry.k) }
-    ensures { starts.new ≡ region_starts geometry design.now tuple.0 }
+pub fn region_starts(layout: &Layout, tuple: Tuple, starts: &mut [usize])
+    requires { (tuple.0 < tuples_of layout.now.geometry) × (length starts.old ≡ layout.now.geometry.k) }
+    ensures { starts.new ≡ region_starts layout.now.geometry layout.now.design.now tuple.0 }
 {
-    let mut l: u32 = 0;
-    while l < geometry.k {
-        let at = l as usize;
-        starts[at] = region_start(geometry, design, tuple, l);
-        l += 1;
+    for (l, start) in starts.iter_mut().enumerate() {
+        *start = region_start(layout, tuple, l as u32);
     }
 }
 
@@ -51,18 +42,6 @@ pub fn disk_bytes(geometry: Geometry) -> usize
     ensures { result ≡ disk_bytes geometry }
 {
     geometry.units() as usize * geometry.u as usize
-}
-
-// A column moved right by fewer than g, with no division.
-fn turned(g: u32, x: u32, by: u32) -> u32
-    requires { (x < g) × (by < g) × (g ≤ 13) }
-    ensures { (result ≡ (x + by) % g) × (result < g) }
-{
-    let moved = x + by;
-    if moved < g {
-        return moved;
-    }
-    moved - g
 }
 
 // Where a unit of a region begins. The bytes of a disk are lent by the caller, who asks for them once.
@@ -87,11 +66,9 @@ pub fn label_starts(
     ensures { starts.new ≡ label_starts geometry regions.now row column }
 {
     let mut x = column;
-    let mut l: usize = 0;
-    while l < starts.len() {
-        starts[l] = unit_from(geometry, disk, regions[l], row, x);
-        x = turned(geometry.g, x, row);
-        l += 1;
+    for (l, unit) in starts.iter_mut().enumerate() {
+        *unit = unit_from(geometry, disk, regions[l], row, x);
+        x = region::turned(geometry.g, x, row);
     }
 }
 
@@ -108,11 +85,8 @@ pub fn diagonal_starts(
     ensures { starts.new ≡ diagonal_starts geometry start diagonal }
 {
     let mut x = region::column_of_diagonal(geometry.g, diagonal, 0);
-    let mut i: u32 = 0;
-    while i < geometry.g {
-        let at = i as usize;
-        starts[at] = unit_from(geometry, disk, start, i, x);
-        x = turned(geometry.g, x, 1);
-        i += 1;
+    for (i, unit) in starts.iter_mut().enumerate() {
+        *unit = unit_from(geometry, disk, start, i as u32, x);
+        x = region::turned(geometry.g, x, 1);
     }
 }

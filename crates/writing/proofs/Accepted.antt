@@ -7,12 +7,10 @@ use lib.ListN.{length}
 use contract.Lifetimes.{Lfts}
 use denote.Ref.{Bor, MutBor, as_bor}
 use Rattle.counting.proofs.Bools.{bool_not_both}
-use Rattle.refusal.specs.declared.Checked.{Checked}
-use Rattle.refusal.specs.declared.Checked.TheVariants.{Fine}
 use Rattle.refusal.specs.Refusal.{Rule, rule, accepted, verdict}
 use Rattle.refusal.proofs.Answer.{next, skip, accepted_append, accepted_quiet}
 use Rattle.refusal.proofs.Firsts.{never_true}
-use Rattle.refusal.proofs.Same.{same_checked}
+use Rattle.refusal.proofs.Same.{same_answer}
 use Rattle.geometry.specs.declared.Geometry.{Geometry}
 use Rattle.geometry.specs.declared.UserUnit.{UserUnit}
 use Rattle.geometry.specs.Geometry.{user_units_of}
@@ -32,6 +30,8 @@ use Rattle.fourfold.proofs.WrittenSets.{a_write_keeps_a_consistent_array_consist
 use Rattle.fourfold.proofs.Theorems.{a_write_puts_one_difference_into_four_units, a_read_after_a_write}
 use Rattle.fourfold.proofs.Theorems.{other_user_units_keep_their_bytes}
 use Rattle.writing.proofs.TwoResults.{Allowed, write_accepted}
+use Rattle.std.specs.Prelude.{Result, Ok}
+use Rattle.refusal.specs.declared.Refusal.{Refusal}
 
 -- ---- none of the write's rules refuses
 module _ (G : Geometry) (d : List ℕ) (bytes : ℕ) (marks : List ℕ) (m o n : ℕ)
@@ -70,7 +70,7 @@ module _ (G : Geometry) (d : List ℕ) (bytes : ℕ) (marks : List ℕ) (m o n :
       record { laid = h.laid; whole = e ∙ h.whole; user = r.user; inside = r.inside }
 
 module _ (κs : Lfts 4) (G : Geometry) (design : Bor (List ℕ)) (array : MutBor (List ℕ)) (marks : Bor (List ℕ)) (n : UserUnit) (offset : ℕ)
-    (bytes : Bor (List ℕ)) (x : MutBor (List ℕ)) (p : Allowed κs G design array marks n offset bytes Fine x) where
+    (bytes : Bor (List ℕ)) (x : MutBor (List ℕ)) (p : Allowed κs G design array marks n offset bytes (Ok tt) x) where
   range : Range G design.now array.now n.0 offset (length bytes.now)
   range =
       fine_range G design.now (length array.now) marks.now n.0 offset (length bytes.now) (sym p.0) array.now refl
@@ -108,8 +108,8 @@ module _ (κs : Lfts 4) (G : Geometry) (design : Bor (List ℕ)) (array : MutBor
         (a_read_after_a_write G design.now array.now n.0 offset bytes.now range)
 
     pub read_after_write :
-        (r : Checked) (y : MutBor (List ℕ)) → read.Allowed ρs G design (as_bor x) marks n offset out r y → (r ≡ Fine) × (y.now ≡ bytes.now)
+        (r : Result (Unit {0}) Refusal) (y : MutBor (List ℕ)) → read.Allowed ρs G design (as_bor x) marks n offset out r y → (r ≡ (Ok tt)) × (y.now ≡ bytes.now)
     read_after_write r y q = (
-      same_checked r Fine (q.0 ∙ reads),
+      same_answer r (Ok tt) (q.0 ∙ reads),
       q.1 ∙ sym (kept_new _ tt (read_of G design.now x.now n.0 offset (length out.now)) out.now reads) ∙ gives,
     )

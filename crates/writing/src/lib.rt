@@ -2,44 +2,32 @@
 #![tactic(auto)]
 
 ghost use Rattle.std.specs.Prelude.{◌≡◌, [], ◌∷◌, length};
-ghost use Rattle.refusal.specs.Refusal.{rule, verdict, kept, checked_outcome};
+ghost use Rattle.refusal.specs.Refusal.{rule, verdict, kept, outcome_of};
 ghost use Rattle.fourfold.specs.Writing.{write_of};
 ghost use Rattle.writing.specs.Writing.{four_lost, first_lost, FourMarked, write_rules};
 
 use geometry::{Geometry, UserUnit};
-use layout::Four;
-use refusal::{Checked, Refusal};
+use layout::{Four, Layout};
+use refusal::Refusal;
 
 // Refusal 12: "first marked disk of data, outer, inner of data, inner of outer".
-fn check_four(geometry: Geometry, marks: &[u8], four: Four) -> Checked
+fn check_four(geometry: Geometry, marks: &[u8], four: Four) -> Result<(), Refusal>
     requires { FourMarked (length marks.now) four }
-    ensures { checked_outcome result ≡ verdict (rule 12 (four_lost geometry marks.now four) (first_lost geometry marks.now four) ∷ []) }
+    ensures { outcome_of result ≡ verdict (rule 12 (four_lost geometry marks.now four) (first_lost geometry marks.now four) ∷ []) }
 {
     if array::is_lost(geometry, marks, four.user) {
-        return Checked::Refused(Refusal {
-            number: 12,
-            place: four.user.disk.0,
-        });
+        return Err(Refusal::Marked(four.user.disk));
     }
     if array::is_lost(geometry, marks, four.outer) {
-        return Checked::Refused(Refusal {
-            number: 12,
-            place: four.outer.disk.0,
-        });
+        return Err(Refusal::Marked(four.outer.disk));
     }
     if array::is_lost(geometry, marks, four.inner) {
-        return Checked::Refused(Refusal {
-            number: 12,
-            place: four.inner.disk.0,
-        });
+        return Err(Refusal::Marked(four.inner.disk));
     }
     if array::is_lost(geometry, marks, four.both) {
-        return Checked::Refused(Refusal {
-            number: 12,
-            place: four.both.disk.0,
-        });
+        return Err(Refusal::Marked(four.both.disk));
     }
-    Checked::Fine
+    Ok(())
 }
 
 // "Write: takes a like range; the difference of new and old bytes is XORed into the data unit, its outer parity, the inner parity
@@ -52,31 +40,14 @@ pub fn write(
     n: UserUnit,
     offset: u64,
     bytes: &[u8],
-) -> Checked
-    ensures { (checked_outcome result ≡ verdict (write_rules geometry design.now (length array.old) marks.now n.0 offset (length bytes.now))) × (array.new ≡ kept (verdict (write_rules geometry design.now (length array.old) marks.now n.0 offset (length bytes.now))) (write_of geometry design.now array.old n.0 offset bytes.now) array.old) }
+) -> Result<(), Refusal>
+    ensures { (outcome_of result ≡ verdict (write_rules geometry design.now (length array.old) marks.now n.0 offset (length bytes.now))) × (array.new ≡ kept (verdict (write_rules geometry design.now (length array.old) marks.now n.0 offset (length bytes.now))) (write_of geometry design.now array.old n.0 offset bytes.now) array.old) }
 {
-    let checked = array::check_array(geometry, design, array.len(), marks);
-    match checked {
-        Checked::Refused(x) => {
-            return Checked::Refused(x);
-        }
-        Checked::Fine => {}
-    }
-    let ranged = array::check_range(geometry, n, offset, bytes.len());
-    match ranged {
-        Checked::Refused(x) => {
-            return Checked::Refused(x);
-        }
-        Checked::Fine => {}
-    }
-    let four = layout::four_of(geometry, design, n);
-    let present = check_four(geometry, marks, four);
-    match present {
-        Checked::Refused(x) => {
-            return Checked::Refused(x);
-        }
-        Checked::Fine => {}
-    }
+    array::check_array(geometry, design, array.len(), marks)?;
+    array::check_range(geometry, n, offset, bytes.len())?;
+    let layout = Layout { geometry, design };
+    let four = layout.four_of(n);
+    check_four(geometry, marks, four)?;
     fourfold::write_checked(geometry, array, four, offset, bytes);
-    Checked::Fine
+    Ok(())
 }

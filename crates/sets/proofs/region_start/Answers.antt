@@ -7,7 +7,7 @@ use borrow.Author.Rules.{rules}
 use Rattle.sets.proofs.region_start.Goals as goal
 
 pub start_of-requires : goal.start_of-requires
-start_of-requires c = record { sound = c.requires.laid.sound; place_in = subst⁻¹ (PlaceIn _) c.place_of-place.ensures (place_in _ _ c.requires.laid _ (search rules)) }
+start_of-requires c = record { sound = c.args.layout.now.laid.sound; place_in = subst⁻¹ (PlaceIn _) c.place_of-place.ensures (place_in _ _ c.args.layout.now.laid _ (search rules)) }
 
 pub returns : goal.returns
 unfolding cell_start

@@ -9,9 +9,6 @@ overflow_mul-result c = let p = c.requires in omega (arith, unit_fits _ p.0 _ _ 
 pub overflow_add-result : goal.overflow_add-result
 overflow_add-result c = let p = c.requires in omega (arith, unit_fits _ p.0 _ _ _ _ p.1 p.2 p.3 p.4)
 
-pub overflow_mul-result-2 : goal.overflow_mul-result-2
-overflow_mul-result-2 c = let p = c.requires in omega (arith, unit_fits _ p.0 _ _ _ _ p.1 p.2 p.3 p.4)
-
 pub overflow_add-result-2 : goal.overflow_add-result-2
 overflow_add-result-2 c = let p = c.requires in omega (arith, unit_fits _ p.0 _ _ _ _ p.1 p.2 p.3 p.4)
 

@@ -1,6 +1,6 @@
--- `layout::pair_of` meets its contract. Assumes nothing.
+-- `layout::Layout::pair_of` meets its contract. Assumes nothing.
 use Rattle.layout.proofs.Found.{place_found, inner_found}
-use Rattle.layout.proofs.pair_of.Goals as goal
+use Rattle.layout.proofs.Layout.pair_of.Goals as goal
 
 pub returns : goal.returns
 returns c = let region = c.region_of-region.ensures.0 in

@@ -1,6 +1,6 @@
--- `layout::four_of` meets its contract. Assumes nothing.
+-- `layout::Layout::four_of` meets its contract. Assumes nothing.
 use Rattle.layout.proofs.Found.{four_found}
-use Rattle.layout.proofs.four_of.Goals as goal
+use Rattle.layout.proofs.Layout.four_of.Goals as goal
 
 pub returns : goal.returns
 returns c = four_found _ _ _ _ _ _ _ _ c.digits_of-digits.ensures.0 c.data_cell.ensures.0
