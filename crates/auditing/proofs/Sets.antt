@@ -3,10 +3,11 @@ use Prim.Native.Nat.{ℕ, ◌+◌, ◌-◌, ◌*◌, ◌/◌, ◌%◌, ◌≤◌
 use mathlib.Core.Path.{◌≡◌, refl, sym, ap, ap₂, subst⁻¹, ◌∙◌}
 use mathlib.Core.Bool.{Bool}
 use mathlib.Core.List.{List}
-use native.Mathlib.Nat.{mul-le-mul_right, mod-lt, div-add-mod', div-lt_iff_lt-mul}
+use native.Mathlib.Nat.{mod-lt, div-add-mod', div-lt_iff_lt-mul}
 use native.Mathlib.Omega.{arith}
 use lib.Arith.{digits_div, digits_mod}
-use lib.ListN.{get_or, length}
+use lib.ListN.{get_or}
+use Rattle.std.proofs.lemmas.Nat.{row_fits}
 use Rattle.geometry.specs.declared.Geometry.{Geometry}
 use Rattle.geometry.specs.Geometry.{Sound, tuples_of, tuple_sets_of, sets_of, bytes_of}
 use Rattle.geometry.proofs.Laws.{sets_bound}
@@ -16,7 +17,7 @@ use Rattle.leaves.specs.Bytes.{Inside, zero_sum}
 use Rattle.consistent.specs.Consistent.{set_zero}
 use Rattle.consistent.proofs.Numbers.{set_starts_outer, set_starts_inner}
 use Rattle.sets.specs.Starts.{region_starts, RegionFits, RegionsFit, label_starts, diagonal_starts}
-use Rattle.sets.proofs.Starts.{label_length, diagonal_length, labels_inside, diagonals_inside, label_starts_are, diagonal_starts_are}
+use Rattle.sets.proofs.Starts.{labels_inside, diagonals_inside, label_starts_are, diagonal_starts_are}
 use Rattle.finding.specs.declared.Found.{Found}
 use Rattle.finding.specs.Bad.{found_below, audit_of}
 use Rattle.finding.specs.Steps.{after, found_from}
@@ -26,9 +27,6 @@ use Rattle.finding.proofs.Steps.{from_none, from_bad, from_same, from_add, from_
 -- ---- the starts of one set, once they are filled in
 module _ (G : Geometry) (s : Sound G) (xs : List ℕ) where
   module _ (ps : List ℕ) (i c : ℕ) (e : xs ≡ label_starts G ps i c) where
-    pub label_long : length xs ≡ G.k
-    label_long = ap length e ∙ label_length G s ps i c
-
     pub label_inside : (n : ℕ) → RegionsFit G ps → i < G.g → n ≡ bytes_of G → Inside n xs G.u
     label_inside n f h k = subst⁻¹ (λ (x : List ℕ). Inside n x G.u) e (labels_inside G s ps i c n f h k)
 
@@ -36,53 +34,30 @@ module _ (G : Geometry) (s : Sound G) (xs : List ℕ) where
     label_zero_lem a b h = h ∙ ap (λ (x : List ℕ). zero_sum a x G.u) e
 
   module _ (p j : ℕ) (e : xs ≡ diagonal_starts G p j) where
-    pub diagonal_long : length xs ≡ G.g
-    diagonal_long = ap length e ∙ diagonal_length G s p j
-
     pub diagonal_inside : (n : ℕ) → RegionFits G p → n ≡ bytes_of G → Inside n xs G.u
     diagonal_inside n f k = subst⁻¹ (λ (x : List ℕ). Inside n x G.u) e (diagonals_inside G s p j n f k)
 
     pub diagonal_zero_lem : (a : List ℕ) (b : Bool) → b ≡ zero_sum a xs G.u → b ≡ diagonal_zero G p a j
     diagonal_zero_lem a b h = h ∙ ap (λ (x : List ℕ). zero_sum a x G.u) e
 
--- ---- rows of sets: what holds after i of n rows of g sets, the next of which has number `next`
-pub record Rows (z : ℕ → Bool) (f : Found) (s n g : ℕ) (x : Found) (next i : ℕ) : Type 0 where
-  pub is : x ≡ found_from z f s (i * g)
-  pub at : next ≡ s + i * g
-  pub most : i ≤ n
+-- no more are bad than were counted
+pub found_bad : (z : ℕ → Bool) (f : Found) (s n : ℕ) (x : Found) → x ≡ found_from z f s n → x.bad ≤ f.bad + n
+found_bad z f s n x e = omega (arith, ap (λ (y : Found). y.bad) e, from_bad z f s n)
 
-pub rows_none : (z : ℕ → Bool) (f : Found) (s n g : ℕ) → Rows z f s n g f s 0
-rows_none z f s n g =
-    let e : 0 * g ≡ 0 = omega arith in
-    record { is = sym (ap (found_from z f s) e ∙ from_none z f s); at = omega arith; most = omega arith }
-
-module _ {z : ℕ → Bool} {f : Found} {s n g : ℕ} {x : Found} {next i : ℕ} (h : Rows z f s n g x next i) where
-  pub rows_bad : f.bad ≤ s → x.bad ≤ next
-  rows_bad l = omega (arith, h.at, ap (λ (y : Found). y.bad) h.is, from_bad z f s (i * g))
-
-  pub rows_next : i < n → next + g ≤ s + n * g
-  rows_next l = let q : i + 1 ≤ n = omega arith in omega (arith, h.at, mul-le-mul_right g q)
+-- ---- rows of sets: after i rows of g sets each, the next of which has number s + i·g
+module _ (z : ℕ → Bool) (f : Found) (s g : ℕ) where
+  pub rows_none : f ≡ found_from z f s (0 * g)
+  rows_none = let e : 0 * g ≡ 0 = omega arith in sym (ap (found_from z f s) e ∙ from_none z f s)
 
   pub rows_more :
-      i < n → (w : ℕ → Bool) → ((c : ℕ) → c < g → w c ≡ z (i * g + c)) → (y : Found) → y ≡ found_from w x next g
-      → Rows z f s n g y (next + g) (i + 1)
-  rows_more l w same y e =
+      (i : ℕ) (x y : Found) (w : ℕ → Bool) → x ≡ found_from z f s (i * g) → ((c : ℕ) → c < g → w c ≡ z (i * g + c))
+      → y ≡ found_from w x (s + i * g) g → y ≡ found_from z f s ((i + 1) * g)
+  rows_more i x y w h same e =
       let q : i * g + g ≡ (i + 1) * g = omega arith in
-      record {
-        is = e ∙ from_same w (λ (c : ℕ). z (i * g + c)) x next g same
-            ∙ ap₂ (λ (v : Found) (m : ℕ). found_from (λ (c : ℕ). z (i * g + c)) v m g) h.is h.at
-            ∙ from_add z f s (i * g) g
-            ∙ ap (found_from z f s) q;
-        at = omega (arith, h.at);
-        most = omega arith;
-      }
-
-  pub rows_all : n ≤ i → x ≡ found_from z f s (n * g)
-  rows_all l = let e : i ≡ n = omega (arith, h.most) in h.is ∙ ap (λ (m : ℕ). found_from z f s (m * g)) e
-
--- a region for each position
-pub position_of : (G : Geometry) (ps : List ℕ) → RegionsFit G ps → (l : ℕ) → l < length ps → l < G.k
-position_of G ps f l h = omega (arith, f.long)
+      e ∙ from_same w (λ (c : ℕ). z (i * g + c)) x (s + i * g) g same
+      ∙ ap (λ (v : Found). found_from (λ (c : ℕ). z (i * g + c)) v (s + i * g) g) h
+      ∙ from_add z f s (i * g) g
+      ∙ ap (found_from z f s) q
 
 -- the sets of row i, and of region l, by number
 module _ (G : Geometry) (ps a : List ℕ) where
@@ -147,9 +122,6 @@ module _ (G : Geometry) (d a : List ℕ) (s : Sound G) (t : ℕ) (h : t < tuples
       whole = tuple_whole G t
 
 -- ---- a tuple's outer sets, and its inner ones counted apart
-pub found_bad : (z : ℕ → Bool) (f : Found) (s n : ℕ) (y : Found) → y ≡ found_from z f s n → y.bad ≤ f.bad + n
-found_bad z f s n y e = omega (arith, ap (λ (x : Found). x.bad) e, from_bad z f s n)
-
 pub tuple_found_lem :
     (G : Geometry) (ps a : List ℕ) (f : Found) (s : ℕ) (y z : Found)
     → y ≡ found_from (outer_zeros G ps a) f s ((G.g - 1) * G.g)
@@ -163,41 +135,29 @@ pub tuple_regions :
     (G : Geometry) (ps qs a : List ℕ) (f : Found) (s : ℕ) (y : Found) → y ≡ tuple_found G ps a f s → ps ≡ qs → y ≡ tuple_found G qs a f s
 tuple_regions G ps qs a f s y e q = e ∙ ap (λ (x : List ℕ). tuple_found G x a f s) q
 
--- ---- the loop over the tuples: what holds before tuple t, whose first set has number `next`
-module _ (G : Geometry) (d a : List ℕ) where
-  pub record Audits (x : Found) (next t : ℕ) : Type 0 where
-    pub is : x ≡ found_below G d a next
-    pub at : next ≡ t * tuple_sets_of G
-    pub most : t ≤ tuples_of G
+-- ---- all tuples of m sets each: before tuple t, whose first set has number t·m
+module _ (G : Geometry) (d a : List ℕ) (s : Sound G) (m : ℕ) (e : m ≡ tuple_sets_of G) where
+  pub audits_none : found 0 0 ≡ found_below G d a (0 * m)
+  audits_none = let z : 0 * m ≡ 0 = omega arith in sym (ap (found_below G d a) z ∙ below_none G d a)
 
-  pub audits_none : Audits (found 0 0) 0 0
-  audits_none = record { is = sym (below_none G d a); at = omega arith; most = omega arith }
+  pub audits_end : (t : ℕ) → t < tuples_of G → t * m + m ≤ 1171170
+  unfolding sets_of tuples_of
+  audits_end t l = rw e (omega (arith, row_fits t (tuple_sets_of G) (tuples_of G) (tuple_sets_of G) l (omega arith), sets_bound G s))
 
-  module _ (s : Sound G) {x : Found} {next t : ℕ} (h : Audits x next t) where
-    pub audits_bad : x.bad ≤ next
-    audits_bad = omega (arith, ap (λ (y : Found). y.bad) h.is, below_bad G d a next)
+  -- no more are bad than were counted
+  pub audits_bad : (t : ℕ) → t < tuples_of G → (x : Found) → x ≡ found_below G d a (t * m) → (x.bad ≤ t * m) × (t * m + 286 ≤ 1200000)
+  audits_bad t l x h =
+      (omega (arith, ap (λ (y : Found). y.bad) h, below_bad G d a (t * m)), omega (arith, audits_end t l))
 
-    pub audits_next : t < tuples_of G → next + tuple_sets_of G ≤ 1171170
-    unfolding sets_of tuples_of
-    audits_next l =
-        let q : t + 1 ≤ tuples_of G = omega arith in
-        omega (arith, h.at, mul-le-mul_right (tuple_sets_of G) q, sets_bound G s)
+  pub audits_more :
+      (t : ℕ) → t < tuples_of G → (x y : Found) → x ≡ found_below G d a (t * m)
+      → y ≡ tuple_found G (region_starts G d t) a x (t * m) → y ≡ found_below G d a ((t + 1) * m)
+  audits_more t l x y h q =
+      q ∙ ap (λ (f : Found). tuple_found G (region_starts G d t) a f (t * m)) h
+      ∙ ap (λ (n : ℕ). tuple_found G (region_starts G d t) a (found_below G d a (t * n)) (t * n)) e
+      ∙ tuple_below G d a s t l (region_starts G d t) refl
+      ∙ sym (ap (λ (n : ℕ). found_below G d a ((t + 1) * n)) e)
 
-    pub audits_more :
-        t < tuples_of G → (y : Found) (sets : ℕ) → sets ≡ tuple_sets_of G → y ≡ tuple_found G (region_starts G d t) a x next
-        → Audits y (next + sets) (t + 1)
-    audits_more l y sets e q =
-        let n : next + sets ≡ (t + 1) * tuple_sets_of G = omega (arith, h.at) in
-        record {
-          is = q ∙ ap₂ (tuple_found G (region_starts G d t) a) (h.is ∙ ap (found_below G d a) h.at) h.at
-              ∙ tuple_below G d a s t l (region_starts G d t) refl
-              ∙ sym (ap (found_below G d a) n);
-          at = n;
-          most = omega arith;
-        }
-
-    pub audits_all : tuples_of G ≤ t → x ≡ audit_of G d a
-    unfolding audit_of sets_of tuples_of
-    audits_all l =
-        let e : t ≡ tuples_of G = omega (arith, h.most) in
-        h.is ∙ ap (found_below G d a) (h.at ∙ ap (λ (m : ℕ). m * tuple_sets_of G) e)
+  pub audits_all : (t : ℕ) (x : Found) → t ≡ tuples_of G → x ≡ found_below G d a (t * m) → x ≡ audit_of G d a
+  unfolding audit_of sets_of tuples_of
+  audits_all t x q h = h ∙ ap₂ (λ (i n : ℕ). found_below G d a (i * n)) q e

@@ -2,24 +2,18 @@
 #![tactic(auto)]
 
 ghost use Rattle.std.specs.Prelude.{◌+◌, ◌-◌, ◌*◌, ◌≤◌, ◌<◌, ◌≡◌, length};
-ghost use Rattle.refusal.specs.Refusal.{answer};
+ghost use Rattle.refusal.specs.Refusal.{answer, outcome_of};
 ghost use Rattle.geometry.specs.Geometry.{Sound, tuples_of, bytes_of};
-ghost use Rattle.design.specs.Design.{Laid};
 ghost use Rattle.sets.specs.Starts.{region_starts, RegionFits, RegionsFit};
 ghost use Rattle.finding.specs.Bad.{audit_of};
 ghost use Rattle.finding.specs.Steps.{found_from};
-ghost use Rattle.auditing.specs.Auditing.{audit_rules, audited_outcome};
+ghost use Rattle.auditing.specs.Auditing.{audit_rules};
 ghost use Rattle.auditing.specs.Steps.{label_zero, diagonal_zero, outer_zeros, inner_zeros, tuple_found};
 
 use finding::Found;
 use geometry::{Geometry, Tuple};
-use refusal::{Checked, Refusal};
-
-#[derive(Clone, Copy)]
-pub enum Audited {
-    Found(Found),
-    Refused(Refusal),
-}
+use layout::Layout;
+use refusal::Refusal;
 
 // The sets of the labels of one row, from number s on. The room for their starts is made once for all of them.
 fn audit_row(
@@ -37,14 +31,12 @@ fn audit_row(
     let disk = sets::disk_bytes(geometry);
     let k = geometry.k as usize;
     let u = geometry.u as usize;
-    let mut room = [0usize; 10];
+    let mut room = [0usize; Geometry::K_MAX as usize];
     let starts = &mut room[..k];
     let mut found = before;
-    let mut c: u32 = 0;
-    while c < geometry.g {
+    for c in 0..geometry.g {
         sets::label_starts(geometry, disk, regions, row, c, starts);
         found = found.with_set(s + c, runs::zero_sum(array, starts, u));
-        c += 1;
     }
     found
 }
@@ -58,14 +50,12 @@ fn audit_region(geometry: Geometry, array: &[u8], start: usize, s: u32, before: 
     let disk = sets::disk_bytes(geometry);
     let g = geometry.g as usize;
     let u = geometry.u as usize;
-    let mut room = [0usize; 13];
+    let mut room = [0usize; Geometry::G_MAX as usize];
     let starts = &mut room[..g];
     let mut found = before;
-    let mut j: u32 = 0;
-    while j < geometry.g {
+    for j in 0..geometry.g {
         sets::diagonal_starts(geometry, disk, start, j, starts);
         found = found.with_set(s + j, runs::zero_sum(array, starts, u));
-        j += 1;
     }
     found
 }
@@ -76,14 +66,9 @@ fn audit_labels(geometry: Geometry, array: &[u8], regions: &[usize], s: u32, bef
     requires bad_le_s { (before.bad ≤ s) × (s + 286 ≤ 1200000) }
     ensures { result ≡ found_from (outer_zeros geometry regions.now array.now) before s ((geometry.g - 1) * geometry.g) }
 {
-    let rows = geometry.g - 1;
     let mut found = before;
-    let mut next = s;
-    let mut i: u32 = 0;
-    while i < rows {
-        found = audit_row(geometry, array, regions, i, next, found);
-        next += geometry.g;
-        i += 1;
+    for i in 0..geometry.g - 1 {
+        found = audit_row(geometry, array, regions, i, s + i * geometry.g, found);
     }
     found
 }
@@ -101,12 +86,9 @@ fn audit_diagonals(
     ensures { result ≡ found_from (inner_zeros geometry regions.now array.now) before s (geometry.k * geometry.g) }
 {
     let mut found = before;
-    let mut next = s;
-    let mut l: usize = 0;
-    while l < regions.len() {
-        found = audit_region(geometry, array, regions[l], next, found);
-        next += geometry.g;
-        l += 1;
+    for l in 0..geometry.k {
+        let start = regions[l as usize];
+        found = audit_region(geometry, array, start, s + l * geometry.g, found);
     }
     found
 }
@@ -119,65 +101,45 @@ fn audit_sets(geometry: Geometry, array: &[u8], regions: &[usize], s: u32, befor
     ensures { result ≡ tuple_found geometry regions.now array.now before s }
 {
     let next = s + (geometry.g - 1) * geometry.g;
-    let inner = audit_diagonals(geometry, array, regions, next, Found { bad: 0, lowest: 0 });
+    let inner = audit_diagonals(geometry, array, regions, next, Found::NONE);
     let outer = audit_labels(geometry, array, regions, s, before);
     inner.after(outer)
 }
 
 // The same for the regions that the design gives the tuple. It is read here, once for each of them.
-fn audit_tuple(
-    geometry: Geometry,
-    design: &[u16],
-    array: &[u8],
-    tuple: Tuple,
-    s: u32,
-    before: Found,
-) -> Found
-    requires laid { Laid geometry design.now × (length array.now ≡ bytes_of geometry) × (tuple.0 < tuples_of geometry) }
+fn audit_tuple(layout: &Layout, array: &[u8], tuple: Tuple, s: u32, before: Found) -> Found
+    requires array_len { (length array.now ≡ bytes_of layout.now.geometry) × (tuple.0 < tuples_of layout.now.geometry) }
     requires bad_le_s { (before.bad ≤ s) × (s + 286 ≤ 1200000) }
-    ensures { result ≡ tuple_found geometry (region_starts geometry design.now tuple.0) array.now before s }
+    ensures { result ≡ tuple_found layout.now.geometry (region_starts layout.now.geometry layout.now.design.now tuple.0) array.now before s }
 {
-    let k = geometry.k as usize;
-    let mut room = [0usize; 10];
+    let k = layout.geometry.k as usize;
+    let mut room = [0usize; Geometry::K_MAX as usize];
     let regions = &mut room[..k];
-    sets::region_starts(geometry, design, tuple, regions);
-    audit_sets(geometry, array, regions, s, before)
+    sets::region_starts(layout, tuple, regions);
+    audit_sets(layout.geometry, array, regions, s, before)
 }
 
 // All sets, tuple by tuple.
-fn audit_all(geometry: Geometry, design: &[u16], array: &[u8]) -> Found
-    requires { Laid geometry design.now × (length array.now ≡ bytes_of geometry) }
-    ensures { result ≡ audit_of geometry design.now array.now }
+fn audit_all(layout: &Layout, array: &[u8]) -> Found
+    requires { length array.now ≡ bytes_of layout.now.geometry }
+    ensures { result ≡ audit_of layout.now.geometry layout.now.design.now array.now }
 {
-    let tuples = geometry.tuples();
-    let sets = geometry.tuple_sets();
-    let mut found = Found { bad: 0, lowest: 0 };
-    let mut next: u32 = 0;
-    let mut t: u32 = 0;
-    while t < tuples {
-        found = audit_tuple(geometry, design, array, Tuple(t), next, found);
-        next += sets;
-        t += 1;
+    let sets = layout.geometry.tuple_sets();
+    let mut found = Found::NONE;
+    for t in 0..layout.geometry.tuples() {
+        found = audit_tuple(layout, array, Tuple(t), t * sets, found);
     }
     found
 }
 
 // "how many sets don't XOR to zero and the lowest such number, 0 if none", or the refusal: 2 to 7.
-pub fn audit(geometry: Geometry, design: &[u16], array: &[u8]) -> Audited
-    ensures { audited_outcome result ≡ answer (audit_rules geometry design.now (length array.now)) (audit_of geometry design.now array.now) }
+pub fn audit(geometry: Geometry, design: &[u16], array: &[u8]) -> Result<Found, Refusal>
+    ensures { outcome_of result ≡ answer (audit_rules geometry design.now (length array.now)) (audit_of geometry design.now array.now) }
 {
-    let checked = sizes::check_sizes(geometry, design);
-    match checked {
-        Checked::Refused(x) => {
-            return Audited::Refused(x);
-        }
-        Checked::Fine => {}
-    }
+    sizes::check_sizes(geometry, design)?;
     if !array::array_fits(geometry, array.len()) {
-        return Audited::Refused(Refusal {
-            number: 7,
-            place: 0,
-        });
+        return Err(Refusal::WrongLength);
     }
-    Audited::Found(audit_all(geometry, design, array))
+    let layout = Layout { geometry, design };
+    Ok(audit_all(&layout, array))
 }

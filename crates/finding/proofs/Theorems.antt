@@ -1,13 +1,14 @@
 -- What is proved of the audit: the proofs of specs/Theorems.antt, in its order. Assumes nothing.
 use Prim.Native.Nat.{ℕ, ◌≤◌, ◌<◌}
 use mathlib.Core.Path.{◌≡◌, refl, ap, subst⁻¹, ◌∙◌}
-use mathlib.Core.Bool.{Bool, true, false, not, cond}
+use mathlib.Core.Bool.{Bool, true, false, not}
 use mathlib.Core.Logic.{◌⊎◌, inl, inr}
 use mathlib.Core.List.{List}
 use native.Mathlib.Omega.{arith}
 use lib.Dec.{ltb}
+use Rattle.std.specs.Prelude.{unwrap_or}
 use borrow.Author.Tests.{lt-ltb, le-ltb, ltb-true, ltb-false, not-true}
-use Rattle.counting.specs.Counting.{count_below, lowest}
+use Rattle.counting.specs.Counting.{count_below, lowest, some_if}
 use Rattle.counting.proofs.Bools.{bool_either, bool_not_both, not_is_true, not_is_false}
 use Rattle.counting.proofs.Laws.{count_zero, count_more, count_same_more, count_none, count_lt, lowest_holds, lowest_before}
 use Rattle.geometry.specs.declared.Geometry.{Geometry}
@@ -44,11 +45,11 @@ module _ (G : Geometry) (d a : List ℕ) where
   -- the number where some set is bad, and where none is
   number_some : first < sets_of G → (audit_of G d a).lowest ≡ first
   unfolding audit_of found_below lowest_bad
-  number_some h = ap (λ (b : Bool). cond b first 0) (lt-ltb first (sets_of G) h)
+  number_some h = ap (λ (b : Bool). unwrap_or (some_if b first) 0) (lt-ltb first (sets_of G) h)
 
   number_none : sets_of G ≤ first → (audit_of G d a).lowest ≡ 0
   unfolding audit_of found_below lowest_bad
-  number_none h = ap (λ (b : Bool). cond b first 0) (le-ltb first (sets_of G) h)
+  number_none h = ap (λ (b : Bool). unwrap_or (some_if b first) 0) (le-ltb first (sets_of G) h)
 
   first_bad : first < sets_of G → Bad G d a first
   first_bad h = (h, not-true _ (lowest_holds is_bad (sets_of G) h))

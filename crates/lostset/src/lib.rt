@@ -4,20 +4,23 @@
 ghost use Rattle.std.specs.Prelude.{◌≡◌, set};
 ghost use Rattle.lostset.specs.Lost.{has, none_marked, marked, cleared, flags_of};
 
-use geometry::Disk;
+use geometry::{Disk, Geometry};
 
-// One flag a disk, for the most disks that an array can have: 91 groups of 13.
-#[derive(Clone, Copy)]
+// One flag a disk, for the most disks that an array can have.
+#[derive(Clone, Copy, Debug, PartialEq, Eq)]
 pub struct LostSet {
-    pub flags: [bool; 1183],
+    pub flags: [bool; LostSet::MOST],
 }
 
 impl LostSet {
+    // 91 groups of 13.
+    pub const MOST: usize = (Geometry::V_MAX * Geometry::G_MAX) as usize;
+
     pub fn none() -> LostSet
         ensures { result.flags ≡ none_marked }
     {
         LostSet {
-            flags: [false; 1183],
+            flags: [false; LostSet::MOST],
         }
     }
 
@@ -26,10 +29,9 @@ impl LostSet {
         ensures { result.flags ≡ set self.flags disk.0 lost }
     {
         let at = disk.0 as usize;
-        if 1183 <= at {
-            return self;
+        if at < self.flags.len() {
+            self.flags[at] = lost;
         }
-        self.flags[at] = lost;
         self
     }
 
@@ -48,29 +50,17 @@ impl LostSet {
     pub fn has(self, disk: Disk) -> bool
         ensures { result ≡ has self.flags disk.0 }
     {
-        let at = disk.0 as usize;
-        if 1183 <= at {
-            return false;
-        }
-        self.flags[at]
+        self.flags.get(disk.0 as usize).copied().unwrap_or(false)
     }
 }
 
-// The disks whose mark is 1. A set is handed on for each marked disk alone.
+// The disks whose mark is 1.
 pub fn from_marks(marks: &[u8]) -> LostSet
     ensures { result.flags ≡ flags_of marks.now }
 {
     let mut lost = LostSet::none();
-    let mut x: u32 = 0;
-    while x < 1183 {
-        let at = x as usize;
-        if marks.len() <= at {
-            return lost;
-        }
-        if marks[at] == 1 {
-            lost = lost.mark(Disk(x));
-        }
-        x += 1;
+    for x in 0..marks.len().min(LostSet::MOST) {
+        lost.flags[x] = marks[x] == 1;
     }
     lost
 }

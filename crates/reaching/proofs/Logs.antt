@@ -1,5 +1,5 @@
 -- The passes over flags and log do what the passes of the definition do, step by step. Assumes nothing.
-use Prim.Native.Nat.{ℕ, zero, suc, ◌+◌, ◌-◌, ◌*◌, ◌/◌, ◌%◌, ◌≤◌, ◌<◌}
+use Prim.Native.Nat.{ℕ, zero, suc, ◌+◌, ◌-◌, ◌*◌, ◌/◌, ◌≤◌, ◌<◌}
 use mathlib.Core.Path.{◌≡◌, ◌∙◌, ap, ap₂, sym, refl}
 use mathlib.Core.Bool.{Bool, true, false, not, cond, ◌&&◌, ◌||◌}
 use mathlib.Core.Logic.{◌⊎◌, inl, inr}
@@ -15,23 +15,22 @@ use lib.Seq.{get_or-set_same, get_or-set_other}
 use borrow.Author.Tests.{eqb-true, eqb-false}
 use Rattle.counting.proofs.Bools.{bool_either, bool_not_both, right_or}
 use Rattle.counting.proofs.Laws.{any_same}
+use Rattle.std.specs.Prelude.{Option, Some, None}
+use Rattle.std.proofs.Math.Bool.{or-false}
 use Rattle.geometry.specs.declared.Geometry.{Geometry}
 use Rattle.geometry.specs.Geometry.{Sound, tuples_of}
-use Rattle.cells.specs.declared.Cell.{Cell}
 use Rattle.cells.specs.Ranges.{CellIn}
 use Rattle.peeling.specs.Peeling.{Side, Step, lacks_only, restored, present_after, or_else, tried, visit, sweep, passes, peeled}
 use Rattle.reaching.specs.Reach.{tuple_cells_of, cell_numbered, outer_side, inner_side, sides_of, here_of, steps_of}
-use Rattle.reaching.specs.State.{State, state, seen, Room, outer_restores, restores_by, first_of, kind_of, restored_by, stay}
-use Rattle.reaching.specs.State.{visited, swept, passed, kind_side, step_of, log_steps}
+use Rattle.reaching.specs.declared.Kind.{Kind}
+use Rattle.reaching.specs.declared.Kind.TheVariants.{Outer, Inner}
+use Rattle.reaching.specs.State.{State, state, seen, Room, outer_restores, first_of, kind_of, kind_number, restored_by, restored_if}
+use Rattle.reaching.specs.State.{stay, visited, swept, passed, kind_side, kind_in, step_of, log_steps}
 use Rattle.reaching.specs.Logged.{TheLogListsWhatThePassesRestore}
 use Rattle.reaching.proofs.Numbers.{cell_in}
 use Rattle.reaching.proofs.Members.{outer_unit_low, inner_unit_low}
 use Rattle.reaching.proofs.Turns.{kept_restored, room_kept}
 use Rattle.reaching.proofs.Visits.{room_for}
-
-pub or_none_right : (b : Bool) → (b || false) ≡ b
-or_none_right true = refl
-or_none_right false = refl
 
 -- ---- entries
 
@@ -43,64 +42,52 @@ log_below G t log i e (suc m) h =
     let w : get_or (set log i e) m 0 ≡ get_or log m 0 = get_or-set_other log i m e 0 (λ (z : m ≡ i). omega arith) in
     rw (w, log_below G t log i e m (omega arith))
 
-entry_cell : (n kind : ℕ) → kind < 2 → (2 * n + kind) / 2 ≡ n
-entry_cell n kind h = rw (mul_comm 2 n) (digits_div n h)
+kind_low : (kind : Kind) → kind_number kind < 2
+kind_low Outer = omega arith
+kind_low Inner = omega arith
 
-entry_kind : (n kind : ℕ) → kind < 2 → (2 * n + kind) % 2 ≡ kind
-entry_kind n kind h = rw (mul_comm 2 n) (digits_mod n h)
+entry_cell : (n : ℕ) (kind : Kind) → (2 * n + kind_number kind) / 2 ≡ n
+entry_cell n kind = rw (mul_comm 2 n) (digits_div n (kind_low kind))
 
-step_is :
-    (G : Geometry) (t n kind : ℕ) → kind < 2
-    → step_of G t (2 * n + kind) ≡ record { cell = n; side = kind_side G (cell_numbered G t n) (eqb kind 0) }
+entry_kind : (n : ℕ) (kind : Kind) → kind_in (2 * n + kind_number kind) ≡ kind
+entry_kind n kind = rw (mul_comm 2 n, digits_mod n (kind_low kind)) (back kind)
+  where
+    back : (k : Kind) → cond (eqb (kind_number k) 0) Outer Inner ≡ k
+    back Outer = refl
+    back Inner = refl
+
+-- the step of a cell and a kind
+abbrev step_by : Geometry → (t n : ℕ) → Kind → Step
+step_by G t n kind = record { cell = n; side = kind_side G (cell_numbered G t n) kind }
+
+step_is : (G : Geometry) (t n : ℕ) (kind : Kind) → step_of G t (2 * n + kind_number kind) ≡ step_by G t n kind
 unfolding step_of
-step_is G t n kind h = rw (entry_cell n kind h, entry_kind n kind h)
+step_is G t n kind = rw (entry_cell n kind, entry_kind n kind)
 
 -- ---- the trial of a cell's sets
 
--- the steps after a visit to a missing cell, by the kind of set that was found
-abbrev by_kind : (outer inner : Step) → List Step → ℕ → List Step
-by_kind o i ss zero = o ∷ ss
-by_kind o i ss (suc zero) = i ∷ ss
-by_kind o i ss (suc (suc _)) = ss
+-- the steps after a visit to a missing cell, by what its sets gave
+abbrev found_steps : (Kind → Step) → List Step → Option Kind → List Step
+found_steps step ss None = ss
+found_steps step ss (Some kind) = step kind ∷ ss
 
-abbrev step_by : Geometry → (t n : ℕ) → Bool → Step
-step_by G t n b = record { cell = n; side = kind_side G (cell_numbered G t n) b }
-
-both_tried : (b c : Bool) (o i : Step) (ss : List Step) → or_else b (o ∷ ss) (or_else c (i ∷ ss) ss) ≡ by_kind o i ss (first_of b c)
-both_tried true c o i ss = refl
-both_tried false true o i ss = refl
-both_tried false false o i ss = refl
-
-one_tried : (c : Bool) (o i : Step) (ss : List Step) → or_else c (i ∷ ss) ss ≡ by_kind o i ss (first_of false c)
-one_tried true o i ss = refl
-one_tried false o i ss = refl
+both_tried : (b c : Bool) (step : Kind → Step) (ss : List Step) → or_else b (step Outer ∷ ss) (or_else c (step Inner ∷ ss) ss) ≡ found_steps step ss (first_of b c)
+both_tried true c step ss = refl
+both_tried false true step ss = refl
+both_tried false false step ss = refl
 
 module _ (G : Geometry) (t : ℕ) (p : ℕ → Bool) (n : ℕ) (ss : List Step) where
-  tried_is : tried p n (sides_of G t n) ss ≡ by_kind (step_by G t n true) (step_by G t n false) ss (kind_of G t p n)
-  unfolding tried sides_of kind_of restores_by outer_restores
+  tried_is : tried p n (sides_of G t n) ss ≡ found_steps (step_by G t n) ss (kind_of G t p n)
+  unfolding tried sides_of kind_of outer_restores
   tried_is = go (ltb (cell_numbered G t n).row (G.g - 1))
     where
-      x : Cell
-      x = cell_numbered G t n
-
       go :
           (a : Bool)
           → tried p n (cond a (outer_side G (cell_numbered G t n) ∷ inner_side G (cell_numbered G t n) ∷ []) (inner_side G (cell_numbered G t n) ∷ [])) ss
-          ≡ by_kind (step_by G t n true) (step_by G t n false) ss
+          ≡ found_steps (step_by G t n) ss
           (first_of (a && lacks_only p (outer_side G (cell_numbered G t n))) (lacks_only p (inner_side G (cell_numbered G t n))))
-      go true =
-          both_tried (lacks_only p (outer_side G (cell_numbered G t n))) (lacks_only p (inner_side G (cell_numbered G t n)))
-          (step_by G t n true) (step_by G t n false) ss
-      go false = one_tried (lacks_only p (inner_side G (cell_numbered G t n))) (step_by G t n true) (step_by G t n false) ss
-
-first_le : (b c : Bool) → first_of b c ≤ 2
-first_le true c = omega arith
-first_le false true = omega arith
-first_le false false = omega arith
-
-kind_le : (G : Geometry) (t : ℕ) (p : ℕ → Bool) (n : ℕ) → kind_of G t p n ≤ 2
-unfolding kind_of
-kind_le G t p n = first_le (restores_by G p (cell_numbered G t n) 0) (restores_by G p (cell_numbered G t n) 1)
+      go true = both_tried (lacks_only p (outer_side G (cell_numbered G t n))) (lacks_only p (inner_side G (cell_numbered G t n))) (step_by G t n) ss
+      go false = both_tried false (lacks_only p (inner_side G (cell_numbered G t n))) (step_by G t n) ss
 
 -- two views that agree below m find the same
 lacks_same :
@@ -115,7 +102,7 @@ lacks_same p q m v e h =
 kind_same :
     (G : Geometry) (t : ℕ) (p q : ℕ → Bool) (n : ℕ) → Sound G → t < tuples_of G → n < tuple_cells_of G
     → ((m : ℕ) → m < tuple_cells_of G → p m ≡ q m) → kind_of G t p n ≡ kind_of G t q n
-unfolding kind_of restores_by outer_restores
+unfolding kind_of outer_restores
 kind_same G t p q n s b h e =
     let w : CellIn G (cell_numbered G t n) = cell_in G s t b n h in
     rw (
@@ -135,10 +122,10 @@ module _ (G : Geometry) (t : ℕ) (start : ℕ → Bool) where
 
   -- one more step
   flags_more :
-      (ss : List Step) (s : State) (n : ℕ) (b : Bool) → Says ss s → n < tuple_cells_of G → (m : ℕ) → m < tuple_cells_of G
-      → seen (set s.flags n true) m ≡ present_after start (step_by G t n b ∷ ss) m
+      (ss : List Step) (s : State) (n : ℕ) (kind : Kind) → Says ss s → n < tuple_cells_of G → (m : ℕ) → m < tuple_cells_of G
+      → seen (set s.flags n true) m ≡ present_after start (step_by G t n kind ∷ ss) m
   unfolding present_after restored
-  flags_more ss s n b w h m l = go (bool_either (eqb n m)) (w.flags m l)
+  flags_more ss s n kind w h m l = go (bool_either (eqb n m)) (w.flags m l)
     where
       go : (eqb n m ≡ true) ⊎ (eqb n m ≡ false) → seen s.flags m ≡ (start m || restored ss m) → seen (set s.flags n true) m ≡ (start m || (eqb n m || restored ss m))
       go (inl e) f =
@@ -152,37 +139,38 @@ module _ (G : Geometry) (t : ℕ) (start : ℕ → Bool) where
     missing_at = w.flags n h ∙ p
 
     steps_more :
-        (kind : ℕ) → kind < 2
-        → log_steps G t (set s.log s.count (2 * n + kind)) (s.count + 1) ≡ step_by G t n (eqb kind 0) ∷ ss
+        (kind : Kind)
+        → log_steps G t (set s.log s.count (2 * n + kind_number kind)) (s.count + 1) ≡ step_by G t n kind ∷ ss
     unfolding log_steps
-    steps_more kind k =
+    steps_more kind =
         rw (
           add-one s.count,
-          get_or-set_same s.log s.count (2 * n + kind) 0 (room_for G s n w.room h missing_at),
-          step_is G t n kind k,
-          log_below G t s.log s.count (2 * n + kind) s.count (omega arith),
+          get_or-set_same s.log s.count (2 * n + kind_number kind) 0 (room_for G s n w.room h missing_at),
+          step_is G t n kind,
+          log_below G t s.log s.count (2 * n + kind_number kind) s.count (omega arith),
           w.steps,
         )
 
     -- the new entry is of a cell of the tuple too
     low_more :
-        (kind : ℕ) → kind < 2 → (i : ℕ) → i < s.count + 1
-        → get_or (set s.log s.count (2 * n + kind)) i 0 < 2 * tuple_cells_of G
-    low_more kind k i l = go (ℕ_discrete i s.count)
+        (kind : Kind) → (i : ℕ) → i < s.count + 1
+        → get_or (set s.log s.count (2 * n + kind_number kind)) i 0 < 2 * tuple_cells_of G
+    low_more kind i l = go (ℕ_discrete i s.count)
       where
-        go : Dec (i ≡ s.count) → get_or (set s.log s.count (2 * n + kind)) i 0 < 2 * tuple_cells_of G
+        go : Dec (i ≡ s.count) → get_or (set s.log s.count (2 * n + kind_number kind)) i 0 < 2 * tuple_cells_of G
         go (yes e) =
-            rw (e, get_or-set_same s.log s.count (2 * n + kind) 0 (room_for G s n w.room h missing_at)) (omega arith)
-        go (no e) = rw (get_or-set_other s.log s.count i (2 * n + kind) 0 e) (w.low i (omega arith))
+            rw (e, get_or-set_same s.log s.count (2 * n + kind_number kind) 0 (room_for G s n w.room h missing_at))
+            (omega (arith, kind_low kind))
+        go (no e) = rw (get_or-set_other s.log s.count i (2 * n + kind_number kind) 0 e) (w.low i (omega arith))
 
-    says_more : (kind : ℕ) → kind < 2 → Says (step_by G t n (eqb kind 0) ∷ ss) (restored_by s n kind)
+    says_more : (kind : Kind) → Says (step_by G t n kind ∷ ss) (restored_by s n kind)
     unfolding restored_by
-    says_more kind k =
+    says_more kind =
         record {
-          flags = flags_more ss s n (eqb kind 0) w h;
+          flags = flags_more ss s n kind w h;
           count = rw w.count (add-one (length ss));
-          steps = steps_more kind k;
-          low = low_more kind k;
+          steps = steps_more kind;
+          low = low_more kind;
           room =
               room_kept G s (restored_by s n kind)
               (kept_restored s n kind (omega (arith, w.room.flags)) missing_at) w.room;
@@ -195,16 +183,14 @@ module _ (G : Geometry) (t : ℕ) (start : ℕ → Bool) where
     unfolding visit visited
     visit_says n h ss s w =
         rw (tried_is G t (present_after start ss) n ss, w.flags n h, kind_same G t (seen s.flags) (present_after start ss) n sound b h w.flags)
-        (go (present_after start ss n) refl (kind_of G t (present_after start ss) n) (kind_le G t (present_after start ss) n))
+        (go (present_after start ss n) refl (kind_of G t (present_after start ss) n))
       where
         go :
-            (a : Bool) → present_after start ss n ≡ a → (k : ℕ) → k ≤ 2
-            → Says (or_else a ss (by_kind (step_by G t n true) (step_by G t n false) ss k)) (stay a s (stay (eqb k 2) s (restored_by s n k)))
-        go true p k l = w
-        go false p zero l = says_more ss s n w h p 0 (omega arith)
-        go false p (suc zero) l = says_more ss s n w h p 1 (omega arith)
-        go false p (suc (suc zero)) l = w
-        go false p (suc (suc (suc k))) l = absurd (omega arith)
+            (a : Bool) → present_after start ss n ≡ a → (found : Option Kind)
+            → Says (or_else a ss (found_steps (step_by G t n) ss found)) (stay a s (restored_if s n found))
+        go true p found = w
+        go false p None = w
+        go false p (Some kind) = says_more ss s n w h p kind
 
     sweep_says :
         (n : ℕ) → n ≤ tuple_cells_of G → (ss : List Step) (s : State) → Says ss s
@@ -246,7 +232,7 @@ module _ (G : Geometry) (t : ℕ) (start : ℕ → Bool) where
     unfolding log_steps present_after restored
     says_start flags log m e =
         record {
-          flags = λ (n : ℕ) (h : n < tuple_cells_of G). e n h ∙ sym (or_none_right (start n));
+          flags = λ (n : ℕ) (h : n < tuple_cells_of G). e n h ∙ sym (or-false (start n));
           count = refl;
           steps = refl;
           low = λ (i : ℕ) (h : i < 0). absurd (omega arith);

@@ -1,10 +1,8 @@
 -- The units of a set by its seven numbers: outer and inner sets alike, each unit a cell of the tuple. Assumes nothing.
 use Prim.Native.Nat.{ℕ, ◌+◌, ◌-◌, ◌*◌, ◌%◌, ◌<◌, ◌≤◌}
 use mathlib.Core.Path.{◌≡◌, ◌∙◌, ap, fun_ext}
-use native.Mathlib.Nat.{mod-lt, mod-add-mod, mul-le-mul, mul_comm, mul_assoc, add-mul, add_comm, mul-one}
+use native.Mathlib.Nat.{mod-add-mod, mul-le-mul, mul_comm, mul_assoc, add-mul, add_comm, mul-one}
 use native.Mathlib.Omega.{arith}
-use mir.Syntax.{w32}
-use mir.Val.{Fits}
 use Rattle.geometry.specs.declared.Geometry.{Geometry}
 use Rattle.geometry.specs.Geometry.{Sound}
 use Rattle.region.specs.Columns.{label_column, diagonal_column}
@@ -21,21 +19,12 @@ use Rattle.reaching.proofs.Numbers.{number_low}
 pub product_le : (a b m n : ℕ) → a ≤ m → b ≤ n → a * b ≤ m * n
 product_le a b m n p q = mul-le-mul p q
 
--- a region of g rows and columns, counted in cells
-pub regions_fit : (l g : ℕ) → l ≤ 13 → g ≤ 13 → Fits w32 (l * (g * g))
-regions_fit l g p q =
-    let a : g * g ≤ 13 * 13 = product_le g g 13 13 q q in
-    let b : l * (g * g) ≤ 13 * (13 * 13) = product_le l (g * g) 13 (13 * 13) p a in
-    omega arith
-
 -- ---- from one unit to the next
+
 -- where unit q's row of columns begins, and its column there
 pub record At (x : Set) (p c q : ℕ) : Type 0 where
   pub line : p ≡ x.base + q * x.step
   pub column : c ≡ (x.column + q * x.turn) % x.g
-
-pub at_first : (x : Set) (c : ℕ) → c ≡ (0 + x.column) % x.g → At x x.base c 0
-at_first x c e = record { line = omega arith; column = e ∙ ap (λ (n : ℕ). n % x.g) (omega arith) }
 
 module _ (x : Set) (p c q : ℕ) (a : At x p c q) where
   pub at_next : (r : ℕ) → r ≡ (c + x.turn) % x.g → At x (p + x.step) r (q + 1)
@@ -52,17 +41,8 @@ module _ (x : Set) (p c q : ℕ) (a : At x p c q) where
   unfolding side_of
   at_is = rw (a.line, a.column)
 
-  module _ (n : ℕ) (h : SetIn n x) (l : q < x.size) where
-    pub line_low : p ≤ 3887
-    line_low =
-        let m : q * x.step ≤ 13 * 169 = product_le q x.step 13 169 (omega arith) h.step in
-        omega (arith, a.line)
-
-    pub column_low : c < x.g
-    column_low = rw a.column (mod-lt (x.column + q * x.turn) h.g_low)
-
-    pub unit_low : p + c < n
-    unit_low = rw at_is (h.low q l)
+  pub unit_low : (n : ℕ) → SetIn n x → q < x.size → p + c < n
+  unit_low n h l = rw at_is (h.low q l)
 
 -- ---- the two kinds
 abbrev pub outer_set : Geometry → Cell → (c : ℕ) → Set

@@ -13,9 +13,11 @@ use borrow.Author.Tests.{eq-eqb, ne_eqb, ltb-true, ltb-false}
 use Rattle.counting.specs.Counting.{one_more_if, count_below}
 use Rattle.counting.proofs.Bools.{bool_either}
 use Rattle.counting.proofs.Laws.{count_suc, count_same, count_le}
+use Rattle.std.specs.Prelude.{Option, Some, None}
 use Rattle.geometry.specs.declared.Geometry.{Geometry}
 use Rattle.reaching.specs.Reach.{tuple_cells_of}
-use Rattle.reaching.specs.State.{State, seen, missing, Room, kind_of, restored_by, stay, visited, swept, passed}
+use Rattle.reaching.specs.declared.Kind.{Kind}
+use Rattle.reaching.specs.State.{State, seen, missing, Room, kind_of, kind_number, restored_by, restored_if, stay, visited, swept, passed}
 
 -- ---- one more present is one less missing
 
@@ -75,27 +77,25 @@ kept_then s r q a b =
     go (inr h) (inl e) = let w : q.count ≡ r.count = ap (λ (x : State). x.count) e in inr (omega arith)
     go (inr h) (inr k) = inr (omega arith)
 
-pub kept_restored : (s : State) (n kind : ℕ) → n < length s.flags → seen s.flags n ≡ false → Kept s (restored_by s n kind)
+pub kept_restored : (s : State) (n : ℕ) (kind : Kind) → n < length s.flags → seen s.flags n ≡ false → Kept s (restored_by s n kind)
 unfolding restored_by
 kept_restored s n kind h p =
     let m : missing s.flags ≡ missing (set s.flags n true) + 1 = missing_set s.flags n h p in
     record {
       flags = length-set s.flags n true;
-      log = length-set s.log s.count (2 * n + kind);
+      log = length-set s.log s.count (2 * n + kind_number kind);
       sum = omega arith;
       grown = inr (omega arith);
     }
 
 pub visited_kept : (G : Geometry) (t n : ℕ) (s : State) → n < length s.flags → Kept s (visited G t n s)
 unfolding visited
-visited_kept G t n s h = go (seen s.flags n) refl (eqb (kind_of G t (seen s.flags) n) 2)
+visited_kept G t n s h = go (seen s.flags n) refl (kind_of G t (seen s.flags) n)
   where
-    go :
-        (a : Bool) → seen s.flags n ≡ a → (b : Bool)
-        → Kept s (stay a s (stay b s (restored_by s n (kind_of G t (seen s.flags) n))))
-    go true p b = kept_same s
-    go false p true = kept_same s
-    go false p false = kept_restored s n (kind_of G t (seen s.flags) n) h p
+    go : (a : Bool) → seen s.flags n ≡ a → (found : Option Kind) → Kept s (stay a s (restored_if s n found))
+    go true p found = kept_same s
+    go false p None = kept_same s
+    go false p (Some kind) = kept_restored s n kind h p
 
 pub swept_kept : (G : Geometry) (t n : ℕ) (s : State) → n ≤ length s.flags → Kept s (swept G t n s)
 unfolding swept
@@ -111,30 +111,21 @@ room_kept G s r k m = record { flags = k.flags ∙ m.flags; log = omega (arith, 
 
 -- after n visits
 pub record Sweeping (G : Geometry) (t : ℕ) (s₀ s : State) (n : ℕ) : Type 0 where
-  pub low : n ≤ tuple_cells_of G
   pub room : Room G s
-  pub log : length s.log ≡ length s₀.log
   pub is : s ≡ swept G t n s₀
 
 pub sweeping_none : (G : Geometry) (t : ℕ) (s : State) → Room G s → Sweeping G t s s 0
 unfolding swept
-sweeping_none G t s m = record { low = omega arith; room = m; log = refl; is = refl }
+sweeping_none G t s m = record { room = m; is = refl }
 
 module _ (G : Geometry) (t : ℕ) (s₀ s : State) (n : ℕ) (w : Sweeping G t s₀ s n) where
-  pub sweeping_more : (r : State) → n < length s.flags → r ≡ visited G t n s → Sweeping G t s₀ r (n + 1)
+  pub sweeping_more : (r : State) → n < tuple_cells_of G → r ≡ visited G t n s → Sweeping G t s₀ r (n + 1)
   unfolding swept
   sweeping_more r h e =
       record {
-        low = omega (arith, w.room.flags);
-        room = rw e (room_kept G s (visited G t n s) (visited_kept G t n s h) w.room);
-        log = rw e ((visited_kept G t n s h).log ∙ w.log);
+        room = rw e (room_kept G s (visited G t n s) (visited_kept G t n s (omega (arith, w.room.flags))) w.room);
         is = rw (add-one n, ← w.is) e;
       }
-
-  pub sweeping_all : length s.flags ≤ n → s ≡ swept G t (tuple_cells_of G) s₀
-  sweeping_all h =
-      let e : n ≡ tuple_cells_of G = omega (arith, w.room.flags, w.low) in
-      rw (← e) w.is
 
 -- ---- the turns of the passes
 
@@ -171,12 +162,11 @@ pub record Going (G : Geometry) (t : ℕ) (s₀ s : State) : Type 0 where
   pub enough : missing s.flags ≤ fuel
   pub same : passed G t fuel s ≡ passed G t (tuple_cells_of G) s₀
   pub room : Room G s
-  pub log : length s.log ≡ length s₀.log
 
 pub going_start : (G : Geometry) (t : ℕ) (s : State) → Room G s → Going G t s s
 going_start G t s m =
     let l : missing s.flags ≤ length s.flags = count_le (λ (n : ℕ). not (seen s.flags n)) (length s.flags) in
-    record { fuel = tuple_cells_of G; enough = omega (arith, m.flags); same = refl; room = m; log = refl }
+    record { fuel = tuple_cells_of G; enough = omega (arith, m.flags); same = refl; room = m }
 
 module _ (G : Geometry) (t : ℕ) (s₀ s r : State) (g : Going G t s₀ s) (e : r ≡ swept G t (tuple_cells_of G) s) where
   kept : Kept s r
@@ -204,11 +194,7 @@ module _ (G : Geometry) (t : ℕ) (s₀ s r : State) (g : Going G t s₀ s) (e :
             enough = omega (arith, less);
             same = ap (passed G t f) e ∙ sym (more G t f s (λ (y : (swept G t (tuple_cells_of G) s).count ≡ s.count). d (rw e y))) ∙ w;
             room = room_kept G s r kept g.room;
-            log = kept.log ∙ g.log;
           }
-
-  pub going_lengths : (length r.flags ≡ length s.flags) × (length r.log ≡ length s.log)
-  going_lengths = (kept.flags, kept.log)
 
   pub going_end : r.count ≡ s.count → r ≡ passed G t (tuple_cells_of G) s₀
   going_end d = go kept.grown

@@ -1,17 +1,19 @@
 -- A visit by its cases: which set restores a cell, and what flags and log become. Assumes nothing.
-use Prim.Native.Nat.{ℕ, ◌+◌, ◌-◌, ◌*◌, ◌≤◌, ◌<◌}
+use Prim.Native.Nat.{ℕ, ◌+◌, ◌*◌, ◌≤◌, ◌<◌}
 use mathlib.Core.Path.{◌≡◌}
 use mathlib.Core.Bool.{Bool, true, false}
 use mathlib.Core.List.{List}
 use native.Mathlib.Omega.{arith}
 use lib.ListN.{length, set}
-use borrow.Author.Tests.{lt-ltb, le-ltb, eq-eqb, ne_eqb}
+use Rattle.std.specs.Prelude.{Option, Some, None}
 use Rattle.geometry.specs.declared.Geometry.{Geometry}
 use Rattle.geometry.specs.Geometry.{Sound}
 use Rattle.cells.specs.declared.Cell.{Cell}
 use Rattle.peeling.specs.Peeling.{Side, lacks_only}
-use Rattle.reaching.specs.Reach.{tuple_cells_of, cell_numbered, outer_side, inner_side}
-use Rattle.reaching.specs.State.{State, state, seen, Room, outer_restores, restores_by, kind_of, restored_by, visited}
+use Rattle.reaching.specs.Reach.{tuple_cells_of, cell_numbered, inner_side}
+use Rattle.reaching.specs.declared.Kind.{Kind}
+use Rattle.reaching.specs.declared.Kind.TheVariants.{Outer, Inner}
+use Rattle.reaching.specs.State.{State, state, seen, Room, outer_restores, kind_of, kind_number, restored_by, visited}
 use Rattle.reaching.proofs.Members.{product_le}
 use Rattle.reaching.proofs.Turns.{missing_set}
 
@@ -24,36 +26,19 @@ cells_few G s =
 
 -- ---- which set
 
-module _ (G : Geometry) (present : ℕ → Bool) (x : Cell) where
-  pub no_label : G.g - 1 ≤ x.row → false ≡ outer_restores G present x
-  unfolding outer_restores
-  no_label h = rw (le-ltb x.row (G.g - 1) h)
-
-  pub by_label : (r : Bool) (v : Side) → x.row < G.g - 1 → v ≡ outer_side G x → r ≡ lacks_only present v → r ≡ outer_restores G present x
-  unfolding outer_restores
-  by_label r v h e d = rw (lt-ltb x.row (G.g - 1) h, ← e) d
-
-  pub by_outer : (kind : ℕ) (r : Bool) → (kind ≡ 1 → ⊥) → r ≡ outer_restores G present x → r ≡ restores_by G present x kind
-  unfolding restores_by
-  by_outer kind r h d = rw (ne_eqb kind 1 h) d
-
-  pub by_inner : (kind : ℕ) (r : Bool) (v : Side) → kind ≡ 1 → v ≡ inner_side G x → r ≡ lacks_only present v → r ≡ restores_by G present x kind
-  unfolding restores_by
-  by_inner kind r v h e d = rw (eq-eqb kind 1 h, ← e) d
-
-module _ (G : Geometry) (t : ℕ) (present : ℕ → Bool) (n : ℕ) (x : Cell) (e : x ≡ cell_numbered G t n) (b : Bool) (d : b ≡ restores_by G present x 0) where
-  pub kind_outer : b ≡ true → 0 ≡ kind_of G t present n
+module _ (G : Geometry) (t : ℕ) (present : ℕ → Bool) (n : ℕ) (x : Cell) (e : x ≡ cell_numbered G t n) (b : Bool) (d : b ≡ outer_restores G present x) where
+  pub kind_outer : b ≡ true → Some Outer ≡ kind_of G t present n
   unfolding kind_of
   kind_outer p = rw (← e, ← d, p)
 
-  module _ (p : b ≡ false) (r : Bool) (q : r ≡ restores_by G present x 1) where
-    pub kind_inner : r ≡ true → 1 ≡ kind_of G t present n
+  module _ (p : b ≡ false) (v : Side) (q : v ≡ inner_side G x) (r : Bool) (w : r ≡ lacks_only present v) where
+    pub kind_inner : r ≡ true → Some Inner ≡ kind_of G t present n
     unfolding kind_of
-    kind_inner z = rw (← e, ← d, p, ← q, z)
+    kind_inner z = rw (← e, ← d, p, ← q, ← w, z)
 
-    pub kind_neither : r ≡ false → 2 ≡ kind_of G t present n
+    pub kind_neither : r ≡ false → None ≡ kind_of G t present n
     unfolding kind_of
-    kind_neither z = rw (← e, ← d, p, ← q, z)
+    kind_neither z = rw (← e, ← d, p, ← q, ← w, z)
 
 -- ---- what becomes of the state
 
@@ -68,13 +53,13 @@ module _ (G : Geometry) (t n : ℕ) (flags : List Bool) (log : List ℕ) (count 
   unfolding visited
   visit_present p = rw p
 
-  module _ (p : seen flags n ≡ false) (kind : ℕ) (e : kind ≡ kind_of G t (seen flags) n) where
-    pub visit_stuck : kind ≡ 2 → state flags log count ≡ visited G t n (state flags log count)
+  module _ (p : seen flags n ≡ false) (found : Option Kind) (e : found ≡ kind_of G t (seen flags) n) where
+    pub visit_stuck : found ≡ None → state flags log count ≡ visited G t n (state flags log count)
     unfolding visited
-    visit_stuck z = rw (p, ← e, eq-eqb kind 2 z)
+    visit_stuck z = rw (p, ← e, z)
 
     pub visit_restores :
-        (kind ≡ 2 → ⊥)
-        → state (set flags n true) (set log count (2 * n + kind)) (count + 1) ≡ visited G t n (state flags log count)
+        (kind : Kind) → found ≡ Some kind
+        → state (set flags n true) (set log count (2 * n + kind_number kind)) (count + 1) ≡ visited G t n (state flags log count)
     unfolding visited restored_by
-    visit_restores z = rw (p, ← e, ne_eqb kind 2 z)
+    visit_restores kind z = rw (p, ← e, z)

@@ -1,6 +1,6 @@
 -- The passes as the code keeps them: one flag a cell, and a log of what was restored, oldest first. No byte of the array is
 -- named. Assumes nothing.
-use Rattle.std.specs.Prelude.{ℕ, zero, suc, ◌+◌, ◌-◌, ◌*◌, ◌/◌, ◌%◌, ◌≤◌, ◌<◌, ◌≡◌, Bool, true, false, not, cond, ◌&&◌, ◌||◌, List, [], ◌∷◌, ◌++◌, ltb, eqb, get_or, length, set}
+use Rattle.std.specs.Prelude.{ℕ, zero, suc, ◌+◌, ◌-◌, ◌*◌, ◌/◌, ◌%◌, ◌≤◌, ◌<◌, ◌≡◌, Bool, true, false, not, cond, ◌&&◌, ◌||◌, List, [], ◌∷◌, ◌++◌, ltb, eqb, get_or, length, set, Option, Some, None}
 use Rattle.counting.specs.Counting.{any_below, count_below}
 use Rattle.geometry.specs.declared.Geometry.{Geometry}
 use Rattle.geometry.specs.Geometry.{disks_of}
@@ -8,6 +8,8 @@ use Rattle.design.specs.Design.{group_at}
 use Rattle.cells.specs.declared.Cell.{Cell}
 use Rattle.layout.specs.Places.{place_of}
 use Rattle.peeling.specs.Peeling.{Side, Step, lacks_only}
+use Rattle.reaching.specs.declared.Kind.{Kind}
+use Rattle.reaching.specs.declared.Kind.TheVariants.{Outer, Inner}
 use Rattle.reaching.specs.declared.Set.{Set}
 use Rattle.reaching.specs.Reach.{tuple_cells_of, cell_numbered, outer_side, inner_side}
 
@@ -61,25 +63,31 @@ pub record Room (G : Geometry) (s : State) : Type 0 where
 unfoldable pub outer_restores : Geometry → (present : ℕ → Bool) → Cell → Bool
 outer_restores G present x = ltb x.row (G.g - 1) && lacks_only present (outer_side G x)
 
--- a set of this kind restores the cell: 1 for the inner set, else the outer
-unfoldable pub restores_by : Geometry → (present : ℕ → Bool) → Cell → (kind : ℕ) → Bool
-restores_by G present x kind =
-    cond (eqb kind 1) (lacks_only present (inner_side G x)) (outer_restores G present x)
+-- the order of trial
+abbrev pub first_of : (outer inner : Bool) → Option Kind
+first_of true inner = Some Outer
+first_of false true = Some Inner
+first_of false false = None
 
--- the order of trial: 0 for the outer set, 1 for the inner, 2 where neither lacks only the cell
-abbrev pub first_of : (outer inner : Bool) → ℕ
-first_of true inner = 0
-first_of false true = 1
-first_of false false = 2
-
-unfoldable pub kind_of : Geometry → (t : ℕ) → (present : ℕ → Bool) → ℕ → ℕ
+-- the set that restores cell n, if one of its sets lacks only it
+unfoldable pub kind_of : Geometry → (t : ℕ) → (present : ℕ → Bool) → ℕ → Option Kind
 kind_of G t present n =
-    first_of (restores_by G present (cell_numbered G t n) 0) (restores_by G present (cell_numbered G t n) 1)
+    first_of (outer_restores G present (cell_numbered G t n)) (lacks_only present (inner_side G (cell_numbered G t n)))
+
+-- in an entry of the log: 0 for the outer set, 1 for the inner
+abbrev pub kind_number : Kind → ℕ
+kind_number Outer = 0
+kind_number Inner = 1
 
 -- cell n is present from now on, and the log says by which kind of set
-unfoldable pub restored_by : State → (n kind : ℕ) → State
+unfoldable pub restored_by : State → (n : ℕ) → Kind → State
 restored_by s n kind =
-    state (set s.flags n true) (set s.log s.count (2 * n + kind)) (s.count + 1)
+    state (set s.flags n true) (set s.log s.count (2 * n + kind_number kind)) (s.count + 1)
+
+-- where no set restores the cell, the state stays
+abbrev pub restored_if : State → (n : ℕ) → Option Kind → State
+restored_if s n None = s
+restored_if s n (Some kind) = restored_by s n kind
 
 -- the state stays where the test passes
 abbrev pub stay : Bool → (s next : State) → State
@@ -89,8 +97,7 @@ stay false s next = next
 -- a visit to cell n
 unfoldable pub visited : Geometry → (t n : ℕ) → State → State
 visited G t n s =
-    stay (seen s.flags n) s
-    (stay (eqb (kind_of G t (seen s.flags) n) 2) s (restored_by s n (kind_of G t (seen s.flags) n)))
+    stay (seen s.flags n) s (restored_if s n (kind_of G t (seen s.flags) n))
 
 -- the first n cells of a pass
 unfoldable pub swept : Geometry → (t n : ℕ) → State → State
@@ -105,14 +112,18 @@ passed G t (suc fuel) s =
 
 -- ---- the log
 
--- the set of a cell that an entry names: outer or inner
-abbrev pub kind_side : Geometry → Cell → (outer : Bool) → Side
-kind_side G x true = outer_side G x
-kind_side G x false = inner_side G x
+-- the set of this kind
+abbrev pub kind_side : Geometry → Cell → Kind → Side
+kind_side G x Outer = outer_side G x
+kind_side G x Inner = inner_side G x
+
+-- the kind that an entry names
+abbrev pub kind_in : (entry : ℕ) → Kind
+kind_in e = cond (eqb (e % 2) 0) Outer Inner
 
 -- entry 2·cell + kind
 unfoldable pub step_of : Geometry → (t entry : ℕ) → Step
-step_of G t e = record { cell = e / 2; side = kind_side G (cell_numbered G t (e / 2)) (eqb (e % 2) 0) }
+step_of G t e = record { cell = e / 2; side = kind_side G (cell_numbered G t (e / 2)) (kind_in e) }
 
 -- its first n entries as steps, newest first
 unfoldable pub log_steps : Geometry → (t : ℕ) → List ℕ → (n : ℕ) → List Step

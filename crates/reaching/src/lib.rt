@@ -2,18 +2,25 @@
 // cell and write a log; the array's bytes come later, by the log.
 #![tactic(auto)]
 
-ghost use Rattle.std.specs.Prelude.{◌≡◌, ◌+◌, ◌%◌, ◌≤◌, ◌<◌, length};
+ghost use Rattle.std.specs.Prelude.{◌≡◌, ◌+◌, ◌*◌, ◌/◌, ◌<◌, length};
 ghost use Rattle.geometry.specs.Geometry.{Sound, tuples_of};
 ghost use Rattle.cells.specs.Ranges.{CellIn};
 ghost use Rattle.peeling.specs.Peeling.{lacks_only};
 ghost use Rattle.reaching.specs.Reach.{tuple_cells_of, cell_numbered, outer_side, inner_side};
-ghost use Rattle.reaching.specs.State.{side_of, SetIn, seen, outer_restores, restores_by, kind_of};
+ghost use Rattle.reaching.specs.State.{side_of, SetIn, seen, outer_restores, kind_of, kind_number, kind_in};
 ghost use Rattle.reaching.specs.State.{state, Room, visited, swept, passed};
 
 use cells::Cell;
 use geometry::{Geometry, Tuple};
 
-// A set as one of its cells sees it, of either kind: unit q is cell base + typeof.q.step + (column + q·turn) % g of the tuple.
+// Which of a cell's sets: the outer set of its label, or the inner set of its diagonal.
+#[derive(Clone, Copy, Debug, PartialEq, Eq)]
+pub enum Kind {
+    Outer = 0,
+    Inner = 1,
+}
+
+// A set as one of its cells sees it, of either kind: unit q is cell base + q·step + (column + q·turn) % g of the tuple.
 #[derive(Clone, Copy)]
 pub struct Set {
     pub size: u32,
@@ -23,18 +30,6 @@ pub struct Set {
     pub column: u32,
     pub turn: u32,
     pub g: u32,
-}
-
-// A column moved right by at most g, with no division.
-fn turned(g: u32, x: u32, by: u32) -> u32
-    requires { (x < g) × (by ≤ g) × (g ≤ 13) }
-    ensures { result ≡ (x + by) % g }
-{
-    let moved = x + by;
-    if moved < g {
-        return moved;
-    }
-    moved - g
 }
 
 // The outer set of a cell's label.
@@ -94,16 +89,14 @@ fn lacks_only(flags: &[bool], set: Set) -> bool
     ensures { result ≡ lacks_only (seen flags.now) (side_of set) }
 {
     let mut line = set.base;
-    let mut x = turned(set.g, 0, set.column);
-    let mut q: u32 = 0;
-    while q < set.size {
+    let mut x = region::turned(set.g, 0, set.column);
+    for q in 0..set.size {
         let at = (line + x) as usize;
         if !((q == set.own) | flags[at]) {
             return false;
         }
         line += set.step;
-        x = turned(set.g, x, set.turn);
-        q += 1;
+        x = region::turned(set.g, x, set.turn);
     }
     true
 }
@@ -114,39 +107,44 @@ fn outer_restores(geometry: Geometry, flags: &[bool], at: Cell) -> bool
     requires cell_in { CellIn geometry at × (length flags.now ≡ tuple_cells_of geometry) }
     ensures { result ≡ outer_restores geometry (seen flags.now) at }
 {
-    if geometry.g - 1 <= at.row {
-        return false;
-    }
-    lacks_only(flags, outer_set(geometry, at))
+    at.row < geometry.g - 1 && lacks_only(flags, outer_set(geometry, at))
 }
 
-// Whether the outer set (kind 0) or the inner set (kind 1) of a missing cell lacks only it.
-fn restores(geometry: Geometry, flags: &[bool], at: Cell, kind: u32) -> bool
-    requires sound { Sound geometry }
-    requires cell_in { CellIn geometry at × (length flags.now ≡ tuple_cells_of geometry) }
-    ensures { result ≡ restores_by geometry (seen flags.now) at kind }
-{
-    if kind == 1 {
-        return lacks_only(flags, inner_set(geometry, at));
-    }
-    outer_restores(geometry, flags, at)
-}
-
-// "A missing unit whose outer set lacks only it ..; otherwise, if its inner set lacks only it": 0 for the outer set, 1 for the
-// inner, 2 for neither.
-fn kind_of(geometry: Geometry, tuple: Tuple, flags: &[bool], n: u32) -> u32
+// "A missing unit whose outer set lacks only it ..; otherwise, if its inner set lacks only it": the set that restores cell n, if
+// one does.
+fn kind_of(geometry: Geometry, tuple: Tuple, flags: &[bool], n: u32) -> Option<Kind>
     requires sound { Sound geometry }
     requires tuple_bound { (tuple.0 < tuples_of geometry) × (n < tuple_cells_of geometry) × (length flags.now ≡ tuple_cells_of geometry) }
-    ensures { (result ≡ kind_of geometry tuple.0 (seen flags.now) n) × (result ≤ 2) }
+    ensures { result ≡ kind_of geometry tuple.0 (seen flags.now) n }
 {
     let at = cell_numbered(geometry, tuple, n);
-    if restores(geometry, flags, at, 0) {
-        return 0;
+    if outer_restores(geometry, flags, at) {
+        return Some(Kind::Outer);
     }
-    if restores(geometry, flags, at, 1) {
-        return 1;
+    if lacks_only(flags, inner_set(geometry, at)) {
+        return Some(Kind::Inner);
     }
-    2
+    None
+}
+
+// An entry of the log, 2·cell + kind: two bytes a cell, so that the log fits the stack.
+fn entry_of(cell: u32, kind: Kind) -> u16
+    requires { cell < 1690 }
+    ensures { result ≡ 2 * cell + kind_number kind }
+{
+    (2 * cell) as u16 + kind as u16
+}
+
+// The cell and the kind that an entry names.
+pub fn read_entry(entry: u16) -> (u32, Kind)
+    ensures { result ≡ (entry / 2, kind_in entry) }
+{
+    let kind = if entry % 2 == 0 {
+        Kind::Outer
+    } else {
+        Kind::Inner
+    };
+    (u32::from(entry / 2), kind)
 }
 
 // A visit to cell n: a present cell is left, and "Later visits see it as present". Returns how many entries the log has.
@@ -168,12 +166,11 @@ fn visit(
         return count;
     }
     let cell = n as u32;
-    let kind = kind_of(geometry, tuple, flags, cell);
-    if kind == 2 {
+    let Some(kind) = kind_of(geometry, tuple, flags, cell) else {
         return count;
-    }
+    };
     flags[n] = true;
-    log[count] = (2 * cell + kind) as u16;
+    log[count] = entry_of(cell, kind);
     count + 1
 }
 
@@ -192,10 +189,8 @@ fn sweep(
         ≡ swept geometry tuple.0 (tuple_cells_of geometry) (state flags.old log.old count) }
 {
     let mut entries = count;
-    let mut n: usize = 0;
-    while n < flags.len() {
+    for n in 0..flags.len() {
         entries = visit(geometry, tuple, n, flags, log, entries);
-        n += 1;
     }
     entries
 }

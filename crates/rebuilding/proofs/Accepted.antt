@@ -22,8 +22,6 @@ use Rattle.consistent.specs.Consistent.{Consistent}
 use Rattle.reaching.specs.Reach.{incomplete}
 use Rattle.completing.specs.Theorems.{lost_disks, lost_in_group}
 use Rattle.completing.proofs.Theorems.{three_lost_disks_are_rebuilt, a_group_and_one_disk_of_each_other_are_rebuilt}
-use Rattle.rebuilding.specs.declared.Rebuilt.{Rebuilt}
-use Rattle.rebuilding.specs.declared.Rebuilt.TheVariants.{Restored}
 use Rattle.rebuilding.specs.Rebuild.{restored_of, tuple_rule, rebuild_rules}
 use Rattle.rebuilding.specs.Theorems.{Complete, SamePresent, PresentStay}
 use Rattle.rebuilding.proofs.Theorems.{
@@ -31,7 +29,10 @@ use Rattle.rebuilding.proofs.Theorems.{
   the_count_is_of_the_units_on_lost_disks,
   consistent_arrays_come_back,
 }
-use Rattle.rebuilding.proofs.TwoResults.{Allowed, same_rebuilt, rebuild_accepted}
+use Rattle.rebuilding.proofs.TwoResults.{Allowed, rebuild_accepted}
+use Rattle.refusal.proofs.Same.{same_answer}
+use Rattle.std.specs.Prelude.{Result, Ok}
+use Rattle.refusal.specs.declared.Refusal.{Refusal}
 
 module _ (G : Geometry) (d a marks : List ℕ) where
   -- what 2 to 8 and 13 let through
@@ -68,7 +69,7 @@ module _ (G : Geometry) (d a marks : List ℕ) where
 
 -- ---- what an accepted rebuild leaves
 module _ (κs : Lfts 3) (G : Geometry) (design : Bor (List ℕ)) (array marks : MutBor (List ℕ)) (n : ℕ) (x m : MutBor (List ℕ))
-    (p : Allowed κs G design array marks (Restored n) x m) where
+    (p : Allowed κs G design array marks (Ok n) x m) where
   pub accepted_complete : Complete G design.now marks.now array.now
   accepted_complete = let_through G design.now array.now marks.now n (sym p.0)
 
@@ -99,17 +100,17 @@ module _ (κs : Lfts 3) (G : Geometry) (design : Bor (List ℕ)) (array marks : 
 
 -- ---- losses that are accepted, where none of 2 to 8 is due
 module _ (κs : Lfts 3) (G : Geometry) (design : Bor (List ℕ)) (array marks : MutBor (List ℕ))
-    (none : NoneDue (array_rows G design.now (length array.now) marks.now)) (r : Rebuilt) (x m : MutBor (List ℕ))
+    (none : NoneDue (array_rows G design.now (length array.now) marks.now)) (r : Result ℕ Refusal) (x m : MutBor (List ℕ))
     (p : Allowed κs G design array marks r x m) where
   complete_accepted :
       ((t : ℕ) → t < tuples_of G → incomplete G design.now marks.now t ≡ false)
-      → r ≡ Restored (lost_disks G marks.now * units_of G)
+      → r ≡ Ok (lost_disks G marks.now * units_of G)
   complete_accepted complete =
-      same_rebuilt r (Restored (lost_disks G marks.now * units_of G))
+      same_answer r (Ok (lost_disks G marks.now * units_of G))
       (p.0 ∙ counted G design.now array.now marks.now none complete)
 
   -- "at most three disks lost at a time"
-  pub three_accepted : lost_disks G marks.now ≤ 3 → r ≡ Restored (lost_disks G marks.now * units_of G)
+  pub three_accepted : lost_disks G marks.now ≤ 3 → r ≡ Ok (lost_disks G marks.now * units_of G)
   three_accepted h =
       complete_accepted
       (three_lost_disks_are_rebuilt G design.now marks.now
@@ -118,7 +119,7 @@ module _ (κs : Lfts 3) (G : Geometry) (design : Bor (List ℕ)) (array marks : 
   -- "Nine disks, group 0 and the first of each other group, are rebuilt"
   pub group_accepted :
       (heavy : ℕ) → ((a : ℕ) → a < G.v → (a ≡ heavy → ⊥) → lost_in_group G marks.now a ≤ 1)
-      → r ≡ Restored (lost_disks G marks.now * units_of G)
+      → r ≡ Ok (lost_disks G marks.now * units_of G)
   group_accepted heavy h =
       complete_accepted
       (a_group_and_one_disk_of_each_other_are_rebuilt G design.now marks.now

@@ -1,28 +1,24 @@
 -- The answers of the rebuild, case by case. Assumes nothing.
-use Prim.Native.Nat.{ℕ, ◌≤◌, ◌<◌}
+use Prim.Native.Nat.{ℕ, ◌≤◌}
 use mathlib.Core.Path.{◌≡◌, sym, ap, ◌∙◌}
 use mathlib.Core.Bool.{Bool}
 use mathlib.Core.List.{List, [], ◌∷◌}
 use native.Mathlib.Omega.{arith}
 use lib.ListN.{length, replicate}
-use borrow.Author.Tests.{lt-ltb, le-ltb}
-use Rattle.counting.specs.Counting.{lowest}
 use Rattle.refusal.specs.declared.Refusal.{Refusal}
-use Rattle.refusal.specs.Refusal.{Outcome, refused, accepted, answer, verdict, kept}
-use Rattle.refusal.proofs.Answer.{first, next, skip, stop}
+use Rattle.refusal.specs.Refusal.{Outcome, refused, accepted, answer, verdict, kept, number_of, place_of, outcome_of}
+use Rattle.refusal.proofs.Answer.{skip, stop}
 use Rattle.geometry.specs.declared.Geometry.{Geometry}
-use Rattle.geometry.specs.Geometry.{Sound, tuples_of, disks_of}
+use Rattle.geometry.specs.Geometry.{Sound, disks_of}
 use Rattle.geometry.proofs.Laws.{disks_bound}
 use Rattle.array.specs.Array.{formatted_marks}
 use Rattle.array.specs.Rules.{array_rules}
 use Rattle.array.proofs.Fits.{ready}
-use Rattle.reaching.specs.Reach.{incomplete}
 use Rattle.reaching.specs.Logged.{LostAs}
 use Rattle.lostset.specs.Lost.{flags_of}
 use Rattle.lostset.proofs.Sets.{flags_at, flags_length}
-use Rattle.rebuilding.specs.declared.Rebuilt.{Rebuilt}
-use Rattle.rebuilding.specs.declared.Rebuilt.TheVariants.{Restored, Refused}
-use Rattle.rebuilding.specs.Rebuild.{rebuilt_of, restored_of, tuple_rule, rebuild_rules, rebuilt_outcome}
+use Rattle.rebuilding.specs.Rebuild.{rebuilt_of, restored_of, tuple_rule, rebuild_rules}
+use Rattle.std.specs.Prelude.{Result, Ok, Err}
 
 -- ---- the set of the marks
 module _ (G : Geometry) (s : Sound G) (marks : List ℕ) (flags : List Bool) (e : flags ≡ flags_of marks) where
@@ -40,26 +36,6 @@ module _ (G : Geometry) (d marks a : List ℕ) where
   -- what the contract of the checked call says of an answer, and of the array at return
   abbrev pub Decided : Outcome ℕ → List ℕ → Type 0
   Decided o b = (o ≡ decided) × (b ≡ kept decided (rebuilt_of G d marks a) a)
-
-  decides : (o : Outcome ℕ) → decided ≡ o → Decided o (kept o (rebuilt_of G d marks a) a)
-  decides o e = (sym e, ap (λ (p : Outcome ℕ). kept p (rebuilt_of G d marks a) a) (sym e))
-
-  module _ (n : ℕ) (e : n ≡ lowest (incomplete G d marks) (tuples_of G)) where
-    pub tuple_refuses : n < tuples_of G → Decided (refused 13 n) a
-    tuple_refuses h =
-        decides (refused 13 n)
-        (first (tuple_rule G d marks) [] (restored_of G d marks)
-        (lt-ltb (lowest (incomplete G d marks) (tuples_of G)) (tuples_of G) (omega (arith, e, h)))
-        ∙ ap (refused 13) (sym e))
-
-    pub tuples_go :
-        tuples_of G ≤ n → (m : ℕ) (b : List ℕ) → (m ≡ restored_of G d marks) × (b ≡ rebuilt_of G d marks a) → Decided (accepted m) b
-    tuples_go h m b w =
-        rw w.1
-        (decides (accepted m)
-        (next (tuple_rule G d marks) [] (restored_of G d marks)
-        (le-ltb (lowest (incomplete G d marks) (tuples_of G)) (tuples_of G) (omega (arith, e, h)))
-        ∙ ap accepted (sym w.0)))
 
   -- ---- the call
   abbrev answered : Outcome ℕ
@@ -80,10 +56,10 @@ module _ (G : Geometry) (d marks a : List ℕ) where
         ap (λ (o : Outcome ℕ). kept o (formatted_marks G) marks) (sym w),
       )
 
-  module _ (fine : verdict (array_rules G d (length a) marks) ≡ accepted tt) (r : Rebuilt) (b : List ℕ)
-      (is : Decided (rebuilt_outcome r) b) where
+  module _ (fine : verdict (array_rules G d (length a) marks) ≡ accepted tt) (r : Result ℕ Refusal) (b : List ℕ)
+      (is : Decided (outcome_of r) b) where
     -- 13 decides
-    behind : answered ≡ rebuilt_outcome r
+    behind : answered ≡ outcome_of r
     unfolding rebuild_rules
     behind = skip (array_rules G d (length a) marks) _ (restored_of G d marks) fine ∙ sym is.0
 
@@ -91,16 +67,16 @@ module _ (G : Geometry) (d marks a : List ℕ) where
     bytes = is.1 ∙ ap (λ (o : Outcome ℕ). kept o (rebuilt_of G d marks a) a) (sym is.0 ∙ sym behind)
 
     -- refused by 13
-    pub refuses : (x : Refusal) → r ≡ Refused x → Answered (refused x.number x.place) b marks
+    pub refuses : (x : Refusal) → r ≡ Err x → Answered (refused (number_of x) (place_of x)) b marks
     refuses x e =
-        let w : answered ≡ refused x.number x.place = behind ∙ ap rebuilt_outcome e in
+        let w : answered ≡ refused (number_of x) (place_of x) = behind ∙ ap outcome_of e in
         (sym w, bytes, ap (λ (o : Outcome ℕ). kept o (formatted_marks G) marks) (sym w))
 
     -- not refused
-    pub goes : (n : ℕ) → r ≡ Restored n → (m : List ℕ) → m ≡ replicate (length marks) 0 → Answered (accepted n) b m
+    pub goes : (n : ℕ) → r ≡ Ok n → (m : List ℕ) → m ≡ replicate (length marks) 0 → Answered (accepted n) b m
     unfolding formatted_marks
     goes n e m q =
-        let w : answered ≡ accepted n = behind ∙ ap rebuilt_outcome e in (
+        let w : answered ≡ accepted n = behind ∙ ap outcome_of e in (
           sym w,
           bytes,
           q ∙ ap (λ (i : ℕ). replicate i 0) (ready G d (length a) marks fine).long

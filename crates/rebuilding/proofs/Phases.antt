@@ -7,10 +7,12 @@ use native.Mathlib.Numerals.{add-one}
 use native.Mathlib.Omega.{arith}
 use lib.Dec.{eqb}
 use lib.ListN.{get_or, length, take, replicate, length-replicate, get_or-map}
-use lib.Seq.{get_or-take, length-take-le}
+use lib.Seq.{length-take-le}
 use borrow.Author.Tests.{not-true, not-false}
-use Rattle.counting.specs.Counting.{lowest}
-use Rattle.checking.proofs.Scan.{Scanned, scanned_none, scanned_next, scanned_found, scanned_all}
+use borrow.Author.Count.{below_more}
+use Rattle.std.specs.Prelude.{Some, None}
+use Rattle.counting.specs.Counting.{first_below}
+use Rattle.counting.proofs.Laws.{first_is, first_none}
 use Rattle.geometry.specs.declared.Geometry.{Geometry}
 use Rattle.geometry.specs.Geometry.{tuples_of, disks_of, bytes_of}
 use Rattle.design.specs.Design.{Laid}
@@ -21,6 +23,7 @@ use Rattle.reaching.specs.Logged.{LostAs, Ended}
 use Rattle.reaching.proofs.Ends.{a_tuple_ends_as_its_passes_do}
 use Rattle.reaching.proofs.Visits.{cells_few}
 use Rattle.replaying.specs.Replay.{replayed, LogIn}
+use Rattle.replaying.proofs.Entries.{steps_front, ended_log}
 use Rattle.rebuilding.specs.Rebuild.{rebuilt_below, rebuilt_of, restored_below, restored_of}
 use Rattle.rebuilding.specs.Marked.{ForMarks}
 
@@ -38,10 +41,6 @@ flags_are_marks : (G : Geometry) (lost : List Bool) → LostAs G (marks_of lost)
 unfolding marks_of
 flags_are_marks G lost x h =
     mark_is (get_or lost x false) ∙ ap (λ (n : ℕ). eqb n 1) (sym (get_or-map (λ (b : Bool). cond b 1 0) lost x false))
-
--- the flags of the disks alone
-pub front_lost : (G : Geometry) (marks : List ℕ) (flags : List Bool) (n : ℕ) → n ≡ disks_of G → LostAs G marks flags → LostAs G marks (take n flags)
-front_lost G marks flags n e w x h = get_or-take n flags x false (omega (arith, e, h)) ∙ w x h
 
 -- ---- the room for a tuple's flags and log
 
@@ -70,19 +69,14 @@ module _ (G : Geometry) (d : List ℕ) (L : Laid G d) (lost : List Bool) (long :
   pub ended : ForMarks G lost (λ marks. Ended G d marks t (state f l count) complete)
   ended marks w = rw (is, all) (a_tuple_ends_as_its_passes_do G d L marks lost w t h flags log (rooms_reach m lost long))
 
-  pub log_in : LogIn G l count
-  log_in =
-      let w = ended (marks_of lost) (flags_are_marks G lost) in
-      record { room = w.room; low = w.low }
+  log_ended : Ended G d (marks_of lost) t (state f l count) complete
+  log_ended = ended (marks_of lost) (flags_are_marks G lost)
 
 -- ---- the search
 
 pub record Searching (G : Geometry) (d : List ℕ) (lost flags : List Bool) (log : List ℕ) (t : ℕ) : Type 0 where
   pub rooms : Rooms G flags log
-  pub before : ForMarks G lost (λ marks. Scanned (incomplete G d marks) (tuples_of G) t)
-
-pub searching_none : (G : Geometry) (d : List ℕ) (lost flags : List Bool) (log : List ℕ) → Rooms G flags log → Searching G d lost flags log 0
-searching_none G d lost flags log m = record { rooms = m; before = λ marks w. scanned_none (incomplete G d marks) (tuples_of G) }
+  pub before : ForMarks G lost (λ marks. (s : ℕ) → s < t → incomplete G d marks s ≡ false)
 
 module _ {G : Geometry} {d : List ℕ} (L : Laid G d) {lost : List Bool} (long : length lost ≡ disks_of G) {flags : List Bool}
     {log : List ℕ} {t : ℕ} (s : Searching G d lost flags log t) where
@@ -96,20 +90,17 @@ module _ {G : Geometry} {d : List ℕ} (L : Laid G d) {lost : List Bool} (long :
     searching_more p q e = record {
       rooms = rooms_kept s.rooms f l p q;
       before =
-          λ marks w.
-          scanned_next (incomplete G d marks) (tuples_of G) t (s.before marks w) h
-          (not-true _ (sym (whole marks w) ∙ not-false _ e));
+          λ marks w. below_more _ _ (s.before marks w) (not-true _ (sym (whole marks w) ∙ not-false _ e));
     }
 
-    pub searching_found : not complete ≡ true → ForMarks G lost (λ marks. t ≡ lowest (incomplete G d marks) (tuples_of G))
+    pub searching_found : not complete ≡ true → ForMarks G lost (λ marks. Some t ≡ first_below (incomplete G d marks) (tuples_of G))
     searching_found e marks w =
-        scanned_found (incomplete G d marks) (tuples_of G) t (s.before marks w) h
-        (not-false _ (sym (whole marks w) ∙ not-true _ e))
+        sym
+        (first_is (incomplete G d marks) (tuples_of G) t h (not-false _ (sym (whole marks w) ∙ not-true _ e)) (s.before marks w))
 
-  pub searching_all :
-      (n : ℕ) → n ≡ tuples_of G → n ≤ t → ForMarks G lost (λ marks. n ≡ lowest (incomplete G d marks) (tuples_of G))
-  searching_all n e h marks w =
-      e ∙ scanned_all (incomplete G d marks) (tuples_of G) t (s.before marks w) (omega (arith, e, h))
+  pub searching_all : tuples_of G ≤ t → ForMarks G lost (λ marks. None ≡ first_below (incomplete G d marks) (tuples_of G))
+  searching_all h marks w =
+      sym (first_none (incomplete G d marks) (tuples_of G) (λ i l. s.before marks w i (omega arith)))
 
 -- ---- the bytes
 
@@ -131,15 +122,21 @@ module _ {G : Geometry} {d : List ℕ} (L : Laid G d) {lost : List Bool} (long :
     {flags : List Bool} {log a : List ℕ} {n t : ℕ} (s : Restoring G d lost a₀ flags log a n t) where
   module _ (h : t < tuples_of G) (f : List Bool) (l : List ℕ) (count : ℕ) (complete : Bool)
       (is : state f l count ≡ reached_state G d lost t flags log) (all : complete ≡ reached_all G d lost t flags log) where
-    pub restoring_log : LogIn G l count
-    restoring_log = log_in G d L lost long t h s.rooms f l count complete is all
+    passed_log : Ended G d (marks_of lost) t (state f l count) complete
+    passed_log = log_ended G d L lost long t h s.rooms f l count complete is all
+
+    pub restoring_room : count ≤ length l
+    restoring_room = passed_log.room
+
+    pub restoring_log : LogIn G (take count l)
+    restoring_log = ended_log passed_log
 
     pub restoring_few : length l ≡ length log → count ≤ 1690
-    restoring_few q = omega (arith, restoring_log.room, q, s.rooms.entries, cells_few G L.sound)
+    restoring_few q = omega (arith, restoring_room, q, s.rooms.entries, cells_few G L.sound)
 
     pub restoring_more :
         length f ≡ length flags → length l ≡ length log → (b : List ℕ) → length b ≡ length a
-        → b ≡ replayed G d t (log_steps G t l count) a → Restoring G d lost a₀ f l b (n + count) (t + 1)
+        → b ≡ replayed G d t (log_steps G t (take count l) (length (take count l))) a → Restoring G d lost a₀ f l b (n + count) (t + 1)
     unfolding restored_below rebuilt_below
     restoring_more p q b k e = record {
       rooms = rooms_kept s.rooms f l p q;
@@ -152,7 +149,7 @@ module _ {G : Geometry} {d : List ℕ} (L : Laid G d) {lost : List Bool} (long :
           let y = s.done marks w in
           subst⁻¹ (λ (i : ℕ). (n + count ≡ restored_below G d marks i) × (b ≡ rebuilt_below G d marks a₀ i)) (add-one t) (
             ap₂ (λ (i j : ℕ). i + j) y.0 z.count,
-            e ∙ ap₂ (λ (i : List Step) (x : List ℕ). replayed G d t i x) z.steps y.1,
+            e ∙ ap₂ (λ (i : List Step) (x : List ℕ). replayed G d t i x) (steps_front G t l count restoring_room ∙ z.steps) y.1,
           );
     }
 

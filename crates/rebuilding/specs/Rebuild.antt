@@ -1,14 +1,12 @@
 -- 01, "Calls" (rebuild) and "Refusal numbers", row 13. Assumes nothing.
 use Rattle.std.specs.Prelude.{ℕ, zero, suc, ◌+◌, List, [], ◌∷◌, ◌++◌, length}
 use Rattle.counting.specs.Counting.{any_below, lowest}
-use Rattle.refusal.specs.Refusal.{Rule, rule, Outcome, refused, accepted}
+use Rattle.refusal.specs.Refusal.{Rule, rule}
 use Rattle.geometry.specs.declared.Geometry.{Geometry}
 use Rattle.geometry.specs.Geometry.{tuples_of}
 use Rattle.array.specs.Rules.{array_rules}
 use Rattle.reaching.specs.Reach.{steps_of, incomplete}
 use Rattle.replaying.specs.Replay.{replayed}
-use Rattle.rebuilding.specs.declared.Rebuilt.{Rebuilt}
-use Rattle.rebuilding.specs.declared.Rebuilt.TheVariants.{Restored, Refused}
 
 -- "Tuples go upwards": the array when the first n are rebuilt
 unfoldable pub rebuilt_below : Geometry → List ℕ → (marks a : List ℕ) → (n : ℕ) → List ℕ
@@ -34,8 +32,3 @@ tuple_rule G d marks = rule 13 (any_below (incomplete G d marks) (tuples_of G)) 
 -- rows 2 to 8, and 13
 unfoldable pub rebuild_rules : Geometry → (design : List ℕ) → (bytes : ℕ) → (marks : List ℕ) → List Rule
 rebuild_rules G d bytes marks = array_rules G d bytes marks ++ (tuple_rule G d marks ∷ [])
-
--- 01's number, place and value for each answer
-abbrev pub rebuilt_outcome : Rebuilt → Outcome ℕ
-rebuilt_outcome (Restored n) = accepted n
-rebuilt_outcome (Refused x) = refused x.number x.place

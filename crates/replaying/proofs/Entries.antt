@@ -1,13 +1,12 @@
 -- The walk over the log: a unit from one of its sets, an entry, the first entries. Assumes nothing.
-use Prim.Native.Nat.{ℕ, ◌+◌, ◌*◌, ◌/◌, ◌%◌, ◌≤◌, ◌<◌}
-use mathlib.Core.Path.{◌≡◌, refl, ap, ap₂, subst⁻¹, ◌∙◌}
-use mathlib.Core.Bool.{Bool, true, false}
+use Prim.Native.Nat.{ℕ, zero, suc, ◌+◌, ◌/◌, ◌≤◌, ◌<◌}
+use mathlib.Core.Path.{◌≡◌, refl, sym, ap, ap₂, ◌∙◌}
+use mathlib.Core.Bool.{Bool}
 use mathlib.Core.List.{List}
 use native.Mathlib.Numerals.{add-one}
 use native.Mathlib.Omega.{arith}
-use lib.Dec.{eqb}
-use lib.ListN.{get_or, length}
-use borrow.Author.Tests.{eq-eqb, ne_eqb}
+use lib.ListN.{get_or, length, take}
+use lib.Seq.{get_or-take, length-take-le}
 use Rattle.geometry.specs.declared.Geometry.{Geometry}
 use Rattle.geometry.specs.Geometry.{tuples_of, bytes_of}
 use Rattle.design.specs.Design.{Laid}
@@ -15,15 +14,15 @@ use Rattle.cells.specs.declared.Cell.{Cell}
 use Rattle.cells.specs.Cells.{label_of, diagonal_of}
 use Rattle.cells.specs.Ranges.{CellIn}
 use Rattle.sets.specs.Starts.{region_starts, label_starts, diagonal_starts}
-use Rattle.reaching.specs.Reach.{tuple_cells_of, cell_numbered}
-use Rattle.reaching.specs.State.{State, step_of, log_steps}
+use Rattle.reaching.specs.declared.Kind.{Kind}
+use Rattle.reaching.specs.declared.Kind.TheVariants.{Outer, Inner}
+use Rattle.reaching.specs.Reach.{cell_numbered}
+use Rattle.reaching.specs.State.{State, kind_in, log_steps}
 use Rattle.reaching.specs.Logged.{Ended}
-use Rattle.reaching.proofs.Numbers.{the_cells_of_a_tuple_are_numbered}
 use Rattle.restoring.specs.Restore.{restored_in, OneOf}
-use Rattle.restoring.proofs.Restored.{restored_length}
-use Rattle.replaying.specs.Replay.{step_bytes, replayed, LogIn}
+use Rattle.replaying.specs.Replay.{replayed, LogIn}
 use Rattle.replaying.specs.Steps.{RegionsApart, cell_bytes, entry_bytes}
-use Rattle.replaying.proofs.Starts.{regions_apart, entry_step}
+use Rattle.replaying.proofs.Starts.{entry_step}
 
 -- ---- a unit from one of its sets; xs is the list of the set's starts
 module _ (G : Geometry) (ps : List ℕ) (x : Cell) (xs : List ℕ) where
@@ -37,102 +36,64 @@ module _ (G : Geometry) (ps : List ℕ) (x : Cell) (xs : List ℕ) where
   module _ (a b : List ℕ) where
     pub outer_bytes :
         (c : ℕ) → c ≡ label_of G x → xs ≡ label_starts G ps x.row c → b ≡ restored_in a xs x.position G.u
-        → b ≡ cell_bytes G ps x true a
+        → b ≡ cell_bytes G ps x Outer a
     unfolding cell_bytes
     outer_bytes c f e r =
         r ∙ ap (λ (ys : List ℕ). restored_in a ys x.position G.u) (e ∙ ap (label_starts G ps x.row) f)
 
     pub inner_bytes :
         (j : ℕ) → j ≡ diagonal_of G x → xs ≡ diagonal_starts G (get_or ps x.position 0) j → b ≡ restored_in a xs x.row G.u
-        → b ≡ cell_bytes G ps x false a
+        → b ≡ cell_bytes G ps x Inner a
     unfolding cell_bytes
     inner_bytes j f e r =
         r
         ∙ ap (λ (ys : List ℕ). restored_in a ys x.row G.u)
         (e ∙ ap (diagonal_starts G (get_or ps x.position 0)) f)
 
--- ---- an entry
-module _ (G : Geometry) (ps : List ℕ) (t e : ℕ) (a b : List ℕ) (x : Cell) (is : x ≡ cell_numbered G t (e / 2)) where
-  pub entry_outer : e % 2 ≡ 0 → b ≡ cell_bytes G ps x true a → b ≡ entry_bytes G ps t e a
-  unfolding entry_bytes
-  entry_outer z r = rw (eq-eqb (e % 2) 0 z, ← is) r
+-- ---- an entry, as it was read
+pub entry_read :
+    (G : Geometry) (ps : List ℕ) (t e : ℕ) (a b : List ℕ) (x : Cell) (r : ℕ × Kind) (kind : Kind) → r ≡ (e / 2, kind_in e)
+    → x ≡ cell_numbered G t r.0 → r.1 ≡ kind → b ≡ cell_bytes G ps x kind a → b ≡ entry_bytes G ps t e a
+unfolding entry_bytes
+entry_read G ps t e a b x r kind f is k h =
+    let n : r.0 ≡ e / 2 = ap (λ (z : ℕ × Kind). z.0) f in
+    let m : kind ≡ kind_in e = sym k ∙ ap (λ (z : ℕ × Kind). z.1) f in
+    h ∙ ap₂ (λ (y : Cell) (z : Kind). cell_bytes G ps y z a) (is ∙ ap (cell_numbered G t) n) m
 
-  pub entry_inner : (e % 2 ≡ 0 → ⊥) → b ≡ cell_bytes G ps x false a → b ≡ entry_bytes G ps t e a
-  unfolding entry_bytes
-  entry_inner z r = rw (ne_eqb (e % 2) 0 z, ← is) r
+-- ---- the log
 
--- no byte is added or taken
-module _ (G : Geometry) (ps : List ℕ) (apart : RegionsApart G ps) (a : List ℕ) (long : length a ≡ bytes_of G) where
-  cell_length : (x : Cell) → CellIn G x → (outer : Bool) → length (cell_bytes G ps x outer a) ≡ length a
-  unfolding cell_bytes
-  cell_length x v true =
-      restored_length a (label_starts G ps x.row (label_of G x)) x.position G.u
-      (label_one G ps x (label_starts G ps x.row (label_of G x)) apart v (length a) long (label_of G x) refl)
-  cell_length x v false =
-      restored_length a (diagonal_starts G (get_or ps x.position 0) (diagonal_of G x)) x.row G.u
-      (diagonal_one G ps x (diagonal_starts G (get_or ps x.position 0) (diagonal_of G x)) apart v (length a) long
-      (diagonal_of G x) refl)
+-- the first n entries alone say the same steps
+log_front : (G : Geometry) (t : ℕ) (log : List ℕ) (n m : ℕ) → m ≤ n → log_steps G t (take n log) m ≡ log_steps G t log m
+unfolding log_steps
+log_front G t log n zero h = refl
+log_front G t log n (suc m) h =
+    let w : get_or (take n log) m 0 ≡ get_or log m 0 = get_or-take n log m 0 (omega arith) in
+    rw (w, log_front G t log n m (omega arith))
 
-  entry_length : (t e : ℕ) → CellIn G (cell_numbered G t (e / 2)) → length (entry_bytes G ps t e a) ≡ length a
-  unfolding entry_bytes
-  entry_length t e v = cell_length (cell_numbered G t (e / 2)) v (eqb (e % 2) 0)
+pub steps_front : (G : Geometry) (t : ℕ) (log : List ℕ) (n : ℕ) → n ≤ length log → log_steps G t (take n log) (length (take n log)) ≡ log_steps G t log n
+steps_front G t log n h = rw (length-take-le n log h) (log_front G t log n n (omega arith))
 
--- an entry is of a cell of the tuple
-pub logged_low :
-    {G : Geometry} {log : List ℕ} {count : ℕ} → LogIn G log count → (e j : ℕ) → e ≡ get_or log j 0 → j < count
-    → e < 2 * tuple_cells_of G
-logged_low l e j read h = rw read (l.low j h)
-
--- the log that the passes over a tuple leave is such a log
+-- the entries that the passes over a tuple leave are of its cells
 pub ended_log :
     {G : Geometry} {d marks : List ℕ} {t : ℕ} {s : State} {complete : Bool} → Ended G d marks t s complete
-    → LogIn G s.log s.count
-ended_log w = record { room = w.room; low = w.low }
+    → LogIn G (take s.count s.log)
+ended_log {s = s} w =
+    record {
+      low = λ i h.
+          let l : i < s.count = omega (arith, length-take-le s.count s.log w.room) in
+          rw (get_or-take s.count s.log i 0 l) (w.low i l);
+    }
 
 -- ---- the first i entries, oldest first
-module _ (G : Geometry) (d : List ℕ) (t : ℕ) (log : List ℕ) (count : ℕ) (a₀ : List ℕ) where
-  pub record Replaying (a : List ℕ) (i : ℕ) : Type 0 where
-    pub low : i ≤ count
-    pub long : length a ≡ bytes_of G
-    pub is : a ≡ replayed G d t (log_steps G t log i) a₀
-
-  pub replaying_none : length a₀ ≡ bytes_of G → Replaying a₀ 0
-  unfolding replayed log_steps
-  replaying_none h = record { low = omega arith; long = h; is = refl }
+pub replayed_none : (G : Geometry) (d : List ℕ) (t : ℕ) (log : List ℕ) (n : ℕ) (a : List ℕ) → n ≡ 0 → a ≡ replayed G d t (log_steps G t log n) a
+unfolding replayed log_steps
+replayed_none G d t log n a e = rw e
 
 -- the step that entry i names comes after those before it
-module _ (G : Geometry) (d : List ℕ) (t : ℕ) (log : List ℕ) (i : ℕ) (a₀ a : List ℕ) (e : ℕ) where
-  next_entry :
-      a ≡ replayed G d t (log_steps G t log i) a₀ → e ≡ get_or log i 0
-      → entry_bytes G (region_starts G d t) t e a ≡ step_bytes G d t (step_of G t e) a
-      → entry_bytes G (region_starts G d t) t e a ≡ replayed G d t (log_steps G t log (i + 1)) a₀
-  unfolding replayed log_steps
-  next_entry f read s =
-      subst⁻¹ (λ (m : ℕ). entry_bytes G (region_starts G d t) t e a ≡ replayed G d t (log_steps G t log m) a₀) (add-one i)
-      (s ∙ ap₂ (λ (n : ℕ) (c : List ℕ). step_bytes G d t (step_of G t n) c) read f)
-
-module _ {G : Geometry} {d : List ℕ} {t : ℕ} {log : List ℕ} {count : ℕ} {a₀ a : List ℕ} {i : ℕ} (f : Replaying G d t log count a₀ a i) where
-  pub replaying_all : count ≤ i → a ≡ replayed G d t (log_steps G t log count) a₀
-  replaying_all h = let e : i ≡ count = omega (arith, f.low) in rw (← e) f.is
-
-  module _ (L : Laid G d) (ht : t < tuples_of G) (l : LogIn G log count) (h : i < count) (e : ℕ) (read : e ≡ get_or log i 0) where
-    pub replaying_more :
-        (ps : List ℕ) → ps ≡ region_starts G d t → (b : List ℕ) → b ≡ entry_bytes G ps t e a
-        → Replaying G d t log count a₀ b (i + 1)
-    replaying_more ps p b r = record { low = omega arith; long = kept ∙ f.long; is = one_more }
-      where
-        there : CellIn G (cell_numbered G t (e / 2))
-        there = (the_cells_of_a_tuple_are_numbered G d L t ht).there (e / 2) (omega (arith, logged_low l e i read h))
-
-        kept : length b ≡ length a
-        kept = ap length r ∙ entry_length G ps (subst⁻¹ (RegionsApart G) p (regions_apart G d L t ht)) a f.long t e there
-
-        one_more : b ≡ replayed G d t (log_steps G t log (i + 1)) a₀
-        one_more =
-            r ∙ ap (λ (qs : List ℕ). entry_bytes G qs t e a) p
-            ∙ next_entry G d t log i a₀ a e f.is read (entry_step G d L t ht e (logged_low l e i read h) a)
-
--- a log of no entries
-pub no_entries : (G : Geometry) (d : List ℕ) (t : ℕ) (log : List ℕ) (n : ℕ) (a : List ℕ) → n ≡ 0 → a ≡ replayed G d t (log_steps G t log n) a
+pub replayed_more :
+    {G : Geometry} {d : List ℕ} {t : ℕ} {log : List ℕ} {i : ℕ} (a₀ a ps b : List ℕ) → Laid G d → t < tuples_of G → LogIn G log
+    → i < length log → ps ≡ region_starts G d t → a ≡ replayed G d t (log_steps G t log i) a₀
+    → b ≡ entry_bytes G ps t (get_or log i 0) a → b ≡ replayed G d t (log_steps G t log (i + 1)) a₀
 unfolding replayed log_steps
-no_entries G d t log n a e = rw e
+replayed_more {G} {d} {t} {log} {i} a₀ a ps b L ht l h p f r =
+    rw (add-one i, ← f, ← entry_step G d L t ht (get_or log i 0) (l.low i h) a, ← p) r

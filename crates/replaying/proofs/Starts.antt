@@ -1,11 +1,9 @@
 -- The sets of a tuple from where its regions begin: their units lie apart, and they are the sets that the log's entries name.
 -- Assumes nothing.
-use Prim.Native.Nat.{ℕ, ◌*◌, ◌/◌, ◌%◌, ◌<◌}
+use Prim.Native.Nat.{ℕ, ◌*◌, ◌/◌, ◌<◌}
 use mathlib.Core.Path.{◌≡◌, refl, sym, ap, subst⁻¹, ◌∙◌}
-use mathlib.Core.Bool.{Bool, true, false}
 use mathlib.Core.List.{List}
 use native.Mathlib.Omega.{arith}
-use lib.Dec.{eqb}
 use lib.ListN.{get_or}
 use Rattle.geometry.specs.declared.Geometry.{Geometry}
 use Rattle.geometry.specs.Geometry.{tuples_of, bytes_of}
@@ -21,7 +19,9 @@ use Rattle.consistent.proofs.Numbers.{outer_length, inner_length, cells_inside, 
 use Rattle.sets.specs.Starts.{region_starts, label_starts, diagonal_starts}
 use Rattle.sets.proofs.Starts.{same_elements, regions_fit, label_starts_are, diagonal_starts_are}
 use Rattle.reaching.specs.Reach.{tuple_cells_of, number_of, cell_numbered, outer_side, inner_side}
-use Rattle.reaching.specs.State.{kind_side, step_of}
+use Rattle.reaching.specs.declared.Kind.{Kind}
+use Rattle.reaching.specs.declared.Kind.TheVariants.{Outer, Inner}
+use Rattle.reaching.specs.State.{kind_side, kind_in, step_of}
 use Rattle.reaching.specs.Theorems.{CellsNumbered}
 use Rattle.reaching.proofs.Numbers.{the_cells_of_a_tuple_are_numbered}
 use Rattle.restoring.specs.Restore.{restored_in, OneOf}
@@ -105,12 +105,12 @@ module _ (G : Geometry) (d : List ℕ) (L : Laid G d) (t : ℕ) (ht : t < tuples
 
     -- a unit from one of its sets
     pub cell_side :
-        (outer : Bool) (a : List ℕ) →
-        cell_bytes G (region_starts G d t) x outer a
-        ≡ restored_in a (side_starts G d t (kind_side G x outer)) (kind_side G x outer).own G.u
+        (kind : Kind) (a : List ℕ) →
+        cell_bytes G (region_starts G d t) x kind a
+        ≡ restored_in a (side_starts G d t (kind_side G x kind)) (kind_side G x kind).own G.u
     unfolding cell_bytes outer_side inner_side
-    cell_side true a = ap (λ (ps : List ℕ). restored_in a ps x.position G.u) label_side
-    cell_side false a = ap (λ (ps : List ℕ). restored_in a ps x.row G.u) diagonal_side
+    cell_side Outer a = ap (λ (ps : List ℕ). restored_in a ps x.position G.u) label_side
+    cell_side Inner a = ap (λ (ps : List ℕ). restored_in a ps x.row G.u) diagonal_side
 
   -- an entry is the step that it names
   pub entry_step :
@@ -118,4 +118,4 @@ module _ (G : Geometry) (d : List ℕ) (L : Laid G d) (t : ℕ) (ht : t < tuples
       entry_bytes G (region_starts G d t) t e a ≡ step_bytes G d t (step_of G t e) a
   unfolding entry_bytes step_bytes step_of cell_numbered
   entry_step e h a =
-      cell_side (cell_numbered G t (e / 2)) (numbered.there (e / 2) (omega arith)) refl (eqb (e % 2) 0) a
+      cell_side (cell_numbered G t (e / 2)) (numbered.there (e / 2) (omega arith)) refl (kind_in e) a

@@ -1,5 +1,5 @@
 -- 01, "Calls" (rebuild): the bytes of the units that the passes restore in a tuple. Assumes nothing.
-use Rattle.std.specs.Prelude.{ℕ, ◌*◌, ◌≤◌, ◌<◌, List, [], ◌∷◌, get_or, length}
+use Rattle.std.specs.Prelude.{ℕ, ◌*◌, ◌<◌, List, [], ◌∷◌, get_or, length}
 use Rattle.counting.specs.Lists.{list_of}
 use Rattle.geometry.specs.declared.Geometry.{Geometry}
 use Rattle.array.specs.Array.{cell_start}
@@ -20,7 +20,6 @@ unfoldable pub replayed : Geometry → List ℕ → (t : ℕ) → List Step → 
 replayed G d t [] a = a
 replayed G d t (s ∷ ss) a = step_bytes G d t s (replayed G d t ss a)
 
--- a log as the passes leave it: its first entries, count of them, are there, each of a cell of the tuple
-pub record LogIn (G : Geometry) (log : List ℕ) (count : ℕ) : Type 0 where
-  pub room : count ≤ length log
-  pub low : (i : ℕ) → i < count → get_or log i 0 < 2 * tuple_cells_of G
+-- a log as the passes leave it: each entry is of a cell of the tuple
+pub record LogIn (G : Geometry) (log : List ℕ) : Type 0 where
+  pub low : (i : ℕ) → i < length log → get_or log i 0 < 2 * tuple_cells_of G

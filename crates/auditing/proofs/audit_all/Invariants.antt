@@ -1,10 +1,7 @@
--- `auditing::audit_all` meets its contract: after each tuple, the sets below the next number. Assumes nothing.
-use Prim.Native.Nat.{◌-◌}
-use Rattle.auditing.proofs.Sets.{Audits}
+-- `auditing::audit_all` meets its contract: after each tuple, the sets up to there. Assumes nothing.
+use Rattle.std.proofs.Common.{◌≡◌, ◌*◌}
+use Rattle.finding.specs.Bad.{found_below}
 use Rattle.auditing.proofs.audit_all.Given as goal
 
 abbrev pub invariant-loop-t : goal.invariant-loop-t
-invariant-loop-t l = Audits l.geometry l.design l.array l.found l.next l.t
-
-abbrev pub decreases-loop-t : goal.decreases-loop-t
-decreases-loop-t l = l.tuples - l.t
+invariant-loop-t l = l.found ≡ found_below l.layout.geometry l.layout.design.now l.array (l.t * l.sets)

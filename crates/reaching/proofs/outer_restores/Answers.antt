@@ -1,12 +1,12 @@
 -- `reaching::outer_restores` meets its contract. Assumes nothing.
-use Rattle.reaching.proofs.Visits.{no_label, by_label}
+use borrow.Author.Tests.{lt-ltb, le-ltb}
+use Rattle.reaching.specs.State.{outer_restores}
 use Rattle.reaching.proofs.outer_restores.Goals as goal
 
-pub returns-then-geometry-at : goal.returns-then-geometry-at
-returns-then-geometry-at c = no_label _ _ _ c.if-geometry-at.true
+pub returns-then-at-geometry : goal.returns-then-at-geometry
+unfolding outer_restores
+returns-then-at-geometry c = rw (lt-ltb _ _ c.if-at-geometry.true, ← c.outer_set.ensures.0) c.lacks_only.ensures
 
-pub lacks_only-requires : goal.lacks_only-requires
-lacks_only-requires c = rw c.requires.cell_in.1 c.outer_set.ensures.1
-
-pub returns : goal.returns
-returns c = by_label _ _ _ _ _ c.if-geometry-at.false c.outer_set.ensures.0 c.lacks_only.ensures
+pub returns-else-at-geometry : goal.returns-else-at-geometry
+unfolding outer_restores
+returns-else-at-geometry c = rw (le-ltb _ _ c.if-at-geometry.false)

@@ -1,16 +1,9 @@
 -- `reaching::passes` meets its contract: what is left to do is what was to do, and each turn leaves fewer cells missing. Assumes nothing.
-use Rattle.reaching.proofs.Turns.{going_start, going_less, going_lengths, going_again, going_end}
-use native.Mathlib.Omega.{arith}
+use Rattle.reaching.proofs.Turns.{going_start, going_less, going_again, going_end}
 use Rattle.reaching.proofs.passes.Goals as goal
 
 pub loop-count-init : goal.loop-count-init
 loop-count-init c = going_start _ _ _ c.requires.room
-
-pub shape_of-flags-then-after-count : goal.shape_of-flags-then-after-count
-shape_of-flags-then-after-count c = omega (arith, (going_lengths _ _ _ _ _ c.loop-count.invariant c.sweep-after.ensures).0)
-
-pub shape_of-log-then-after-count : goal.shape_of-log-then-after-count
-shape_of-log-then-after-count c = omega (arith, (going_lengths _ _ _ _ _ c.loop-count.invariant c.sweep-after.ensures).1)
 
 pub returns-then-after-count : goal.returns-then-after-count
 returns-then-after-count c = going_end _ _ _ _ _ c.loop-count.invariant c.sweep-after.ensures c.if-after-count.true

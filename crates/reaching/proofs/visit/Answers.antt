@@ -9,20 +9,14 @@ returns-then-flags-n c = visit_present _ _ _ _ _ _ c.if-flags-n.true
 pub overflow_cast-cell : goal.overflow_cast-cell
 overflow_cast-cell c = omega (arith, cells_few _ c.requires.sound)
 
-pub returns-then-kind-eq2 : goal.returns-then-kind-eq2
-returns-then-kind-eq2 c = visit_stuck _ _ _ _ _ _ c.if-flags-n.false _ c.kind_of-kind.ensures.0 c.if-kind-eq2.true
+pub returns-in_default : goal.returns-in_default
+returns-in_default c = visit_stuck _ _ _ _ _ _ c.if-flags-n.false _ c.kind_of.ensures c.in_default.is
 
-pub overflow_mul-log : goal.overflow_mul-log
-overflow_mul-log c = omega (arith, cells_few _ c.requires.sound)
-
-pub overflow_add-log : goal.overflow_add-log
-overflow_add-log c = omega (arith, cells_few _ c.requires.sound)
-
-pub overflow_cast-log : goal.overflow_cast-log
-overflow_cast-log c = omega (arith, cells_few _ c.requires.sound)
+pub entry_of-requires : goal.entry_of-requires
+entry_of-requires c = omega (arith, cells_few _ c.requires.sound)
 
 pub bounds-log-count : goal.bounds-log-count
 bounds-log-count c = room_for _ _ _ c.requires.room c.requires.tuple_bound.1 c.if-flags-n.false
 
 pub returns : goal.returns
-returns c = visit_restores _ _ _ _ _ _ c.if-flags-n.false _ c.kind_of-kind.ensures.0 c.if-kind-eq2.false
+returns c = rw c.entry_of.ensures (visit_restores _ _ _ _ _ _ c.if-flags-n.false _ c.kind_of.ensures _ c.in-Some.is)

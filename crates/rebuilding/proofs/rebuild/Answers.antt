@@ -1,32 +1,37 @@
 -- `rebuilding::rebuild` meets its contract: each return by the law of its case. Assumes nothing.
-use mathlib.Core.Path.{◌≡◌, sym, ap, ◌∙◌}
+use mathlib.Core.Path.{◌≡◌, sym}
 use lib.ListN.{length}
-use Rattle.refusal.specs.Refusal.{accepted, checked_outcome, verdict}
+use Rattle.refusal.specs.Refusal.{accepted, verdict}
+use Rattle.refusal.proofs.Same.{passed_on}
 use Rattle.array.specs.Rules.{array_rules}
 use Rattle.array.proofs.Fits.{Ready, ready}
 use Rattle.rebuilding.proofs.Answers.{set_lost, set_long, array_refuses, refuses, goes}
 use Rattle.rebuilding.proofs.rebuild.Goals as goal
-use Rattle.rebuilding.proofs.rebuild.Goals.{In-Fine}
+use Rattle.rebuilding.proofs.rebuild.Goals.{In_ok-check_array}
 
 -- none of 2 to 8 is due
-fine : (c : In-Fine) → let a = c.args in verdict (array_rules a.geometry a.design.now (length a.array.now) a.marks.now) ≡ accepted tt
-fine c = sym c.check_array-checked.ensures ∙ ap checked_outcome c.in-Fine.is
+fine : (c : In_ok-check_array) → let a = c.args in verdict (array_rules a.geometry a.design.now (length a.array.now) a.marks.now) ≡ accepted tt
+fine c = sym c.in_ok-check_array.ensures
 
-checked-ready : (c : In-Fine) → let a = c.args in Ready a.geometry a.design.now (length a.array.now) a.marks.now
+checked-ready : (c : In_ok-check_array) → let a = c.args in Ready a.geometry a.design.now (length a.array.now) a.marks.now
 checked-ready c = let a = c.args in ready a.geometry a.design.now (length a.array.now) a.marks.now (fine c)
 
-pub returns-in-Refused : goal.returns-in-Refused
-returns-in-Refused c =
-    let a = c.args in array_refuses a.geometry a.design.now a.marks.now a.array.now _ _ (sym c.check_array-checked.ensures ∙ ap checked_outcome c.in-Refused.is)
+pub returns-in_err-check_array : goal.returns-in_err-check_array
+returns-in_err-check_array c =
+    let a = c.args in
+    rw (passed_on _ _ c.from_residual.ensures.1) (array_refuses a.geometry a.design.now a.marks.now a.array.now _ _ (sym c.in_err-check_array.ensures))
 
-pub rebuild_lost-rebuilt-requires : goal.rebuild_lost-rebuilt-requires
-rebuild_lost-rebuilt-requires c =
-    let h = checked-ready (goal.at.rebuild_lost-rebuilt-requires c).In-Fine in record { laid = h.laid; geometry_in_bounds = set_long _ h.laid.sound _ _ c.from_marks-set.ensures; array_len = h.whole }
+pub invariant_of-layout : goal.invariant_of-layout
+invariant_of-layout c = record { laid = (checked-ready (goal.at.invariant_of-layout c).In_ok-check_array).laid }
 
-pub returns-in-Refused-rebuilt : goal.returns-in-Refused-rebuilt
-returns-in-Refused-rebuilt c =
-    let a = c.args in let h = checked-ready (goal.at.returns-in-Refused-rebuilt c).In-Fine in refuses a.geometry a.design.now a.marks.now a.array.now (fine (goal.at.returns-in-Refused-rebuilt c).In-Fine) _ _ (c.rebuild_lost-rebuilt.ensures a.marks.now (set_lost _ h.laid.sound _ _ c.from_marks-set.ensures)) _ c.in-Refused-rebuilt.is
+pub rebuild_lost-requires : goal.rebuild_lost-requires
+rebuild_lost-requires c =
+    let h = checked-ready (goal.at.rebuild_lost-requires c).In_ok-check_array in record { disks_in_bounds = set_long _ h.laid.sound _ _ c.from_marks-set.ensures; array_len = h.whole }
+
+pub returns-in_err-restored : goal.returns-in_err-restored
+returns-in_err-restored c =
+    let a = c.args in let h = checked-ready (goal.at.returns-in_err-restored c).In_ok-check_array in rw (passed_on _ _ c.from_residual-in_err-restored.ensures.1) (refuses a.geometry a.design.now a.marks.now a.array.now (fine (goal.at.returns-in_err-restored c).In_ok-check_array) _ _ (c.rebuild_lost.ensures a.marks.now (set_lost _ h.laid.sound _ _ c.from_marks-set.ensures)) _ c.in_err-restored.was)
 
 pub returns : goal.returns
 returns c =
-    let a = c.args in let h = checked-ready (goal.at.returns c).In-Fine in goes a.geometry a.design.now a.marks.now a.array.now (fine (goal.at.returns c).In-Fine) _ _ (c.rebuild_lost-rebuilt.ensures a.marks.now (set_lost _ h.laid.sound _ _ c.from_marks-set.ensures)) _ c.in-Restored.is _ c.clear.ensures
+    let a = c.args in let h = checked-ready (goal.at.returns c).In_ok-check_array in goes a.geometry a.design.now a.marks.now a.array.now (fine (goal.at.returns c).In_ok-check_array) _ _ (c.rebuild_lost.ensures a.marks.now (set_lost _ h.laid.sound _ _ c.from_marks-set.ensures)) _ c.in_ok-restored.was _ c.clear.ensures
