@@ -84,7 +84,7 @@ pub from_cons : (n x : ℕ) (xs : List ℕ) → decimal_from n (x ∷ xs) ≡ de
 unfolding decimal_from
 from_cons n x xs = refl
 
-from_one : (n x : ℕ) → decimal_from n (x ∷ []) ≡ n * 10 + (x - 48)
+pub from_one : (n x : ℕ) → decimal_from n (x ∷ []) ≡ n * 10 + (x - 48)
 unfolding decimal_from
 from_one n x = refl
 

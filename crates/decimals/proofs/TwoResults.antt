@@ -1,10 +1,9 @@
 -- "That two results allowed by it are equal is itself proved" (01), over the contracts of `render` and `put_number`
 -- themselves. Assumes nothing.
-use Prim.Native.Nat.{ℕ, ◌+◌}
+use Prim.Native.Nat.{ℕ}
 use mathlib.Core.Path.{◌≡◌, refl, sym, ap, ◌∙◌}
 use mathlib.Core.List.{List, ◌++◌}
 use lib.ListN.{length, drop}
-use lib.Seq.{sets}
 use contract.Lifetimes.{Lfts}
 use denote.Ref.{Bor, MutBor, at_last}
 use Rattle.decimals.specs.Decimal.{followed, lines_of}
@@ -31,12 +30,16 @@ some_result κs list out =
     (n, at_last out (lines_of list.now ++ drop n out.now), (refl, refl))
 
 -- the same of a number and the byte after it
-module _ (κs : Lfts 1) (out : MutBor (List ℕ)) (at n by : ℕ) where
+module _ (κs : Lfts 1) (out : MutBor (List ℕ)) (n by : ℕ) where
   abbrev pub NumberAllowed : ℕ → MutBor (List ℕ) → Type 0
-  NumberAllowed r last = put-number.Post κs (out, (at, (n, (by, tt)))) r (last, (at, (n, (by, tt))))
+  NumberAllowed r last = put-number.Post κs (out, (n, (by, tt))) r (last, (n, (by, tt)))
 
   pub two_numbers : (r s : ℕ) (d e : MutBor (List ℕ)) → NumberAllowed r d → NumberAllowed s e → (r ≡ s) × (d.now ≡ e.now)
-  two_numbers r s d e p q = (p.0 ∙ sym q.0, p.1 ∙ sym q.1)
+  two_numbers r s d e p q =
+      let same : r ≡ s = p.0 ∙ sym q.0 in
+      (same, p.1 ∙ ap (λ (m : ℕ). followed n by ++ drop m out.now) same ∙ sym q.1)
 
   pub some_number : (r : ℕ) × (d : MutBor (List ℕ)) × NumberAllowed r d
-  some_number = (at + length (followed n by), at_last out (sets out.now at (followed n by)), (refl, refl))
+  some_number =
+      let m = length (followed n by) in
+      (m, at_last out (followed n by ++ drop m out.now), (refl, refl))

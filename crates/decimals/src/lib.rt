@@ -1,56 +1,55 @@
-// Triples as lines of decimals, into lent bytes.
+// Triples as lines of decimals, at the front of lent bytes.
 #![tactic(auto)]
 
-ghost use Rattle.std.specs.Prelude.{◌≡◌, ◌++◌, ◌+◌, ◌≤◌, length, drop};
-ghost use Rattle.std.proofs.lemmas.List.Edits.{sets};
+ghost use Rattle.std.specs.Prelude.{◌≡◌, ◌++◌, ◌≤◌, length, drop};
 ghost use Rattle.decimals.specs.Decimal.{decimal_of, followed, line_of, lines_of};
 
-// Writes the decimal of n from `at` on and returns where it ends: the higher digits first, then the last one.
-fn put_decimal(out: &mut [u8], at: usize, n: u32) -> usize
-    requires { at + length (decimal_of n) ≤ length out.old }
-    ensures { (result ≡ at + length (decimal_of n)) × (out.new ≡ sets out.old at (decimal_of n)) }
+// Each function here puts its text at the front of `out` and returns how many bytes it is; the rest of `out` stays.
+
+// The decimal of n: the higher digits first, then the last one.
+fn put_decimal(out: &mut [u8], n: u32) -> usize
+    requires { length (decimal_of n) ≤ length out.old }
+    ensures { (result ≡ length (decimal_of n)) × (out.new ≡ decimal_of n ++ drop result out.old) }
 {
     if n < 10 {
-        out[at] = 48 + (n as u8);
-        return at + 1;
+        out[0] = b'0' + n as u8;
+        return 1;
     }
-    let end = put_decimal(out, at, n / 10);
-    out[end] = 48 + ((n % 10) as u8);
+    let end = put_decimal(out, n / 10);
+    out[end] = b'0' + (n % 10) as u8;
     end + 1
 }
 
-// Writes a number, and the byte after it, from `at` on. Returns where they end; the rest of `out` stays.
-pub fn put_number(out: &mut [u8], at: usize, n: u32, by: u8) -> usize
-    requires { at + length (followed n by) ≤ length out.old }
-    ensures { (result ≡ at + length (followed n by)) × (out.new ≡ sets out.old at (followed n by)) }
+// A number, and the byte after it.
+pub fn put_number(out: &mut [u8], n: u32, by: u8) -> usize
+    requires { length (followed n by) ≤ length out.old }
+    ensures { (result ≡ length (followed n by)) × (out.new ≡ followed n by ++ drop result out.old) }
 {
-    let last = put_decimal(out, at, n);
+    let last = put_decimal(out, n);
     out[last] = by;
     last + 1
 }
 
 // A triple on a line.
-fn put_line(out: &mut [u8], at: usize, x: u32, y: u32, z: u32) -> usize
-    requires { at + length (line_of x y z) ≤ length out.old }
-    ensures { (result ≡ at + length (line_of x y z)) × (out.new ≡ sets out.old at (line_of x y z)) }
+fn put_line(out: &mut [u8], x: u32, y: u32, z: u32) -> usize
+    requires { length (line_of x y z) ≤ length out.old }
+    ensures { (result ≡ length (line_of x y z)) × (out.new ≡ line_of x y z ++ drop result out.old) }
 {
-    let second = put_number(out, at, x, b' ');
-    let third = put_number(out, second, y, b' ');
-    put_number(out, third, z, b'\n')
+    let second = put_number(out, x, b' ');
+    let third = second + put_number(&mut out[second..], y, b' ');
+    third + put_number(&mut out[third..], z, b'\n')
 }
 
-// 01: "prints one triple a line": the lines of the list's triples, from the front of `out` on. Returns how many bytes they are;
-// the rest of `out` stays.
+// 01: "prints one triple a line": the lines of the list's triples.
 pub fn render(list: &[u32], out: &mut [u8]) -> usize
     requires { length (lines_of list.now) ≤ length out.old }
     ensures { (result ≡ length (lines_of list.now))
         × (out.new ≡ lines_of list.now ++ drop result out.old) }
 {
-    let mut at: usize = 0;
-    let mut i: usize = 0;
-    while 3 <= list.len() - i {
-        at = put_line(out, at, list[i], list[i + 1], list[i + 2]);
-        i += 3;
+    let (triples, _) = list.as_chunks::<3>();
+    let mut at = 0;
+    for [x, y, z] in triples {
+        at += put_line(&mut out[at..], *x, *y, *z);
     }
     at
 }

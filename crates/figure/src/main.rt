@@ -2,75 +2,52 @@
 // as P and its column where it is an inner parity; then a line for each unit, with its role.
 #![tactic(auto)]
 
-use address::Located;
 use cells::Role;
-use geometry::{Disk, Unit};
+use geometry::{Disk, Tuple, Unit, UserUnit};
+use layout::Place;
+use refusal::Refusal;
 use std::io;
 
-fn print_word(rt: &impl Print, word: &str, n: u32) -> io::Result<()> {
-    print!(rt; "{word}{n}")
+fn role_at(design: &[u16], place: Place) -> Result<Role, Refusal> {
+    address::role(equation1::geometry_f(), design, place.disk, place.unit)
 }
 
 // The figure numbers the labels of tuple t from 6·t on, row after row of three. User unit n = ((t·2 + l)·2 + i)·3 + c has the
 // label (i,c) of tuple t = n / 12, and n % 6 = 3·i + c.
 fn print_label(rt: &impl Print, role: Role) -> io::Result<()> {
     match role {
-        Role::User(n) => {
-            let n = n.0;
-            print_word(rt, " ", n / 12 * 6 + n % 6)
-        }
-        Role::Outer(t, i, c) => {
-            let t = t.0;
-            print_word(rt, " ", t % 7 * 6 + i % 2 * 3 + c % 3)
-        }
-        Role::Inner(_, _, j) => print_word(rt, " P", 2 - j % 3),
+        Role::User(UserUnit(n)) => print!(rt; " {}", n / 12 * 6 + n % 6),
+        Role::Outer(Tuple(t), i, c) => print!(rt; " {}", t % 7 * 6 + i % 2 * 3 + c % 3),
+        Role::Inner(_, _, j) => print!(rt; " P{}", 2 - j % 3),
     }
 }
 
-fn print_role(rt: &impl Print, role: Role) -> io::Result<()> {
-    match role {
-        Role::User(n) => print_word(rt, "user ", n.0),
-        Role::Outer(t, i, c) => {
-            print_word(rt, "outer ", t.0)?;
-            print_word(rt, " ", i)?;
-            print_word(rt, " ", c)
-        }
-        Role::Inner(t, l, j) => {
-            print_word(rt, "inner ", t.0)?;
-            print_word(rt, " ", l)?;
-            print_word(rt, " ", j)
-        }
+fn print_cell(rt: &impl Print, design: &[u16], place: Place) -> io::Result<()> {
+    match role_at(design, place) {
+        Ok(role) => print_label(rt, role),
+        Err(why) => print!(rt; " {why}"),
     }
 }
 
-fn print_cell(rt: &impl Print, design: &[u16], disk: u32, unit: u32) -> io::Result<()> {
-    match address::role(equation1::geometry_f(), design, Disk(disk), Unit(unit)) {
-        Located::Has(role) => print_label(rt, role),
-        Located::Refused(why) => print_word(rt, " refused ", why.number),
-    }
-}
-
-fn print_line(rt: &impl Print, design: &[u16], unit: u32) -> io::Result<()> {
+fn print_line(rt: &impl Print, design: &[u16], unit: Unit) -> io::Result<()> {
     for disk in 0..21 {
-        print_cell(rt, design, disk, unit)?;
+        let disk = Disk(disk);
+        print_cell(rt, design, Place { disk, unit })?;
     }
     println!(rt)
 }
 
-fn print_unit(rt: &impl Print, design: &[u16], disk: u32, unit: u32) -> io::Result<()> {
-    print_word(rt, "", disk)?;
-    print_word(rt, "/", unit)?;
-    print!(rt; " ")?;
-    match address::role(equation1::geometry_f(), design, Disk(disk), Unit(unit)) {
-        Located::Has(role) => print_role(rt, role)?,
-        Located::Refused(why) => print_word(rt, "refused ", why.number)?,
+fn print_unit(rt: &impl Print, design: &[u16], place: Place) -> io::Result<()> {
+    match role_at(design, place) {
+        Ok(role) => println!(rt; "{place} {role}"),
+        Err(why) => println!(rt; "{place} {why}"),
     }
-    println!(rt)
 }
 
-fn print_disk(rt: &impl Print, design: &[u16], disk: u32) -> io::Result<()> {
+fn print_disk(rt: &impl Print, design: &[u16], disk: Disk) -> io::Result<()> {
     for unit in 0..9 {
-        print_unit(rt, design, disk, unit)?;
+        let unit = Unit(unit);
+        print_unit(rt, design, Place { disk, unit })?;
     }
     Ok(())
 }
@@ -78,10 +55,10 @@ fn print_disk(rt: &impl Print, design: &[u16], disk: u32) -> io::Result<()> {
 fn main(rt: HostRuntime) -> io::Result<()> {
     let design = equation1::design();
     for unit in 0..9 {
-        print_line(&rt, &design, unit)?;
+        print_line(&rt, &design, Unit(unit))?;
     }
     for disk in 0..21 {
-        print_disk(&rt, &design, disk)?;
+        print_disk(&rt, &design, Disk(disk))?;
     }
     Ok(())
 }

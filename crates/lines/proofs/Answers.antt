@@ -1,137 +1,92 @@
--- What each function hands on, in the words of the definitions: a field of the line, and what the line asks. Assumes nothing.
-use Prim.Native.Nat.{ℕ, ◌+◌, ◌≤◌}
+-- What the line asks, in the words of the definitions, from its three numbers. Assumes nothing.
+use Prim.Native.Nat.{ℕ, ◌+◌}
 use mathlib.Core.Path.{◌≡◌, refl, sym, ap, ◌∙◌}
 use mathlib.Core.Bool.{Bool, true, false}
+use mathlib.Core.Logic.{◌≢◌}
 use mathlib.Core.List.{List, [], ◌∷◌}
-use native.Mathlib.Omega.{arith}
-use lib.ListN.{length, drop, length-drop}
+use Rattle.std.proofs.Math.Bool.{and-true}
+use lib.Dec.{eqb}
+use lib.ListN.{length, take, drop}
+use lib.Pointwise.{pointwise}
 use lib.Seq.{drop-drop}
-use borrow.Author.Tests.{eq-eqb, ne_eqb}
-use Rattle.counting.proofs.Bools.{bool_not_both}
-use Rattle.decimals.specs.Decimal.{decimal}
-use Rattle.decimals.proofs.Laws.{from_none}
-use Rattle.lines.specs.declared.Number.{Number}
-use Rattle.lines.specs.declared.Parsed.TheVariants.{Asked, Unread}
-use Rattle.lines.specs.Line.{front, most, spaced, ended, field, past, v_in, g_in, disk_in, question, parsed, number_of}
-use Rattle.lines.proofs.Fronts.{front_short, field_found, field_none, field_some}
+use Rattle.std.proofs.Common.{rules, tests}
+use Rattle.std.specs.Prelude.{Some, None}
+use Rattle.std.specs.Bool.{then_some}
+use Rattle.decimals.specs.Decimal.{decimal, space}
+use Rattle.lines.specs.Line.{front, most, spaced, field, past, v_in, g_in, disk_in, some, question, Reads, parsed, ended}
+use Rattle.lines.proofs.Fronts.{field_found, field_none, no_front}
 
--- ---- a field, from the digits at p
+some_digits : (xs : List ℕ) → xs ≢ [] → some xs ≡ true
+some_digits [] h = absurd (h refl)
+some_digits (x ∷ xs) h = search (rules, tests)
 
-module _ (test : List ℕ → Bool) (line : List ℕ) (p : ℕ) (r : Number) (h : r ≡ number_of (front most (drop p line))) where
-  after : drop (p + r.digits) line ≡ drop (length (front most (drop p line))) (drop p line)
-  after =
-      ap (λ (n : ℕ). drop (p + n) line) (ap (λ (x : Number). x.digits) h)
-      ∙ sym (drop-drop (length (front most (drop p line))) p line)
+module _ (line : List ℕ) where
+  pub no_v : v_in line ≡ [] → None ≡ parsed line
+  unfolding parsed
+  no_v v = rw v
 
-  pub found_field : test (drop (p + r.digits) line) ≡ true → r ≡ number_of (field test (drop p line))
-  found_field t = h ∙ ap number_of (sym (field_found test (drop p line) (sym (ap test after) ∙ t)))
+  pub no_g : v_in line ≢ [] → g_in line ≡ [] → None ≡ parsed line
+  unfolding parsed
+  no_g v g = rw (some_digits (v_in line) v, g)
 
-  pub no_field : test (drop (p + r.digits) line) ≡ false → record { value = 0; digits = 0 } ≡ number_of (field test (drop p line))
-  no_field t =
-      ap (λ (v : ℕ). record { value = v; digits = 0 }) (sym (from_none 0))
-      ∙ ap number_of (sym (field_none test (drop p line) (sym (ap test after) ∙ t)))
+  pub no_disk : v_in line ≢ [] → g_in line ≢ [] → disk_in line ≡ [] → None ≡ parsed line
+  unfolding parsed
+  no_disk v g d = rw (some_digits (v_in line) v, some_digits (g_in line) g, d)
 
-  pub digits_inside : p ≤ length line → p + r.digits ≤ length line
-  digits_inside q =
-      let e : r.digits ≡ length (front most (drop p line)) = ap (λ (x : Number). x.digits) h in
-      let s = front_short (drop p line) in
-      let l = length-drop p line in
-      omega arith
+  pub all_three :
+      v_in line ≢ [] → g_in line ≢ [] → disk_in line ≢ [] →
+      Some (question (decimal (v_in line)) (decimal (g_in line)) (decimal (disk_in line))) ≡ parsed line
+  unfolding parsed
+  all_three v g d = rw (some_digits (v_in line) v, some_digits (g_in line) g, some_digits (disk_in line) d)
 
--- ---- what the line asks
+-- ---- a field, from the digits at the front of a line
 
-pub no_v : (line : List ℕ) → length (v_in line) ≡ 0 → Unread ≡ parsed line
-unfolding parsed
-no_v line h = rw (eq-eqb (length (v_in line)) 0 h)
+module _ (line : List ℕ) (e : List ℕ) (h : e ≡ drop (length (front most line)) line) where
+  spaced_is : (xs : List ℕ) → pointwise eqb (take 1 xs) (space ∷ []) ≡ spaced xs
+  spaced_is [] = refl
+  spaced_is (x ∷ xs) = and-true (eqb x space)
 
-pub no_g : (line : List ℕ) → (length (v_in line) ≡ 0 → ⊥) → length (g_in line) ≡ 0 → Unread ≡ parsed line
-unfolding parsed
-no_g line v h = rw (ne_eqb (length (v_in line)) 0 v, eq-eqb (length (g_in line)) 0 h)
+  pub no_space : pointwise eqb (take 1 e) (space ∷ []) ≡ false → field spaced line ≡ []
+  no_space t = field_none spaced line (sym (ap spaced h) ∙ sym (spaced_is e) ∙ t)
 
-pub no_disk :
-    (line : List ℕ) → (length (v_in line) ≡ 0 → ⊥) → (length (g_in line) ≡ 0 → ⊥) → length (disk_in line) ≡ 0 → Unread ≡ parsed line
-unfolding parsed
-no_disk line v g h =
-    rw (ne_eqb (length (v_in line)) 0 v, ne_eqb (length (g_in line)) 0 g, eq-eqb (length (disk_in line)) 0 h)
+  pub with_space : pointwise eqb (take 1 e) (space ∷ []) ≡ true → field spaced line ≡ front most line
+  with_space t = field_found spaced line (sym (ap spaced h) ∙ sym (spaced_is e) ∙ t)
 
-pub all_three :
-    (line : List ℕ) → (length (v_in line) ≡ 0 → ⊥) → (length (g_in line) ≡ 0 → ⊥) → (length (disk_in line) ≡ 0 → ⊥) →
-    Asked (question (decimal (v_in line)) (decimal (g_in line)) (decimal (disk_in line))) ≡ parsed line
-unfolding parsed
-all_three line v g d =
-    rw (ne_eqb (length (v_in line)) 0 v, ne_eqb (length (g_in line)) 0 g, ne_eqb (length (disk_in line)) 0 d)
-
--- a number before a space ends before the line does
-before_space : (xs : List ℕ) → (length (field spaced xs) ≡ 0 → ⊥) → length (field spaced xs) + 1 ≤ length xs
-before_space xs h = go (drop (length (field spaced xs)) xs) refl (field_some spaced xs h).1
-  where
-    go :
-        (ys : List ℕ) → drop (length (field spaced xs)) xs ≡ ys → spaced (drop (length (field spaced xs)) xs) ≡ true →
-        length (field spaced xs) + 1 ≤ length xs
-    go [] e t = bool_not_both (spaced (drop (length (field spaced xs)) xs)) t (ap spaced e)
-    go (y ∷ ys) e t =
-        let l = sym (length-drop (length (field spaced xs)) xs) ∙ ap length e in
-        omega arith
+  pub past_space : pointwise eqb (take 1 e) (space ∷ []) ≡ true → drop 1 e ≡ past line
+  unfolding past
+  past_space t = rw (with_space t, h) (drop-drop 1 (length (front most line)) line)
 
 pub past_is : (xs : List ℕ) → past xs ≡ drop (length (field spaced xs) + 1) xs
 unfolding past
 past_is xs = refl
 
-digits_of : (x : Number) (xs : List ℕ) → x ≡ number_of xs → x.digits ≡ length xs
-digits_of x xs h = ap (λ (y : Number). y.digits) h
+-- ---- the three numbers, one after the other
 
-module _ (line : List ℕ) (v : Number) (hv : v ≡ number_of (v_in line)) where
-  pub unread_v : v.digits ≡ 0 → Unread ≡ parsed line
-  unread_v z = no_v line (sym (digits_of v (v_in line) hv) ∙ z)
+module _ (line : List ℕ) (v : ℕ) (b : List ℕ) (hv : Reads (v_in line) (past line) v b) where
+  pub unread_g : field spaced b ≡ [] → None ≡ parsed line
+  unread_g z = no_g line hv.0 (ap (field spaced) (sym hv.2) ∙ z)
 
-  pub second_inside : (v.digits ≡ 0 → ⊥) → v.digits + 1 ≤ length line
-  second_inside z =
-      let e = digits_of v (v_in line) hv in
-      let s = before_space line (λ w. z (e ∙ w)) in
-      omega arith
+  module _ (g : ℕ) (c : List ℕ) (hg : Reads (field spaced b) (past b) g c) where
+    g_there : g_in line ≢ []
+    g_there z = hg.0 (ap (field spaced) hv.2 ∙ z)
 
-  second_is : drop (v.digits + 1) line ≡ past line
-  second_is = ap (λ (n : ℕ). drop (n + 1) line) (digits_of v (v_in line) hv) ∙ sym (past_is line)
+    c_is : c ≡ past (past line)
+    c_is = hg.2 ∙ ap past hv.2
 
-  module _ (nv : v.digits ≡ 0 → ⊥) (g : Number) (hg : g ≡ number_of (field spaced (drop (v.digits + 1) line))) where
-    g_is : g ≡ number_of (g_in line)
-    g_is = hg ∙ ap (λ (xs : List ℕ). number_of (field spaced xs)) second_is
+    pub unread_disk : front most c ≡ [] → None ≡ parsed line
+    unread_disk z = no_disk line hv.0 g_there (no_front ended (past (past line)) (ap (front most) (sym c_is) ∙ z))
 
-    some_v : length (v_in line) ≡ 0 → ⊥
-    some_v w = nv (digits_of v (v_in line) hv ∙ w)
-
-    pub unread_g : g.digits ≡ 0 → Unread ≡ parsed line
-    unread_g z = no_g line some_v (sym (digits_of g (g_in line) g_is) ∙ z)
-
-    pub third_inside : (g.digits ≡ 0 → ⊥) → v.digits + 1 + (g.digits + 1) ≤ length line
-    third_inside z =
-        let e = digits_of g (g_in line) g_is in
-        let s = before_space (past line) (λ w. z (e ∙ w)) in
-        let l = ap length (sym second_is) ∙ length-drop (v.digits + 1) line in
-        omega (arith, second_inside nv)
-
-    third_is : drop (v.digits + 1 + (g.digits + 1)) line ≡ past (past line)
-    third_is =
-        sym (drop-drop (g.digits + 1) (v.digits + 1) line)
-        ∙ ap (drop (g.digits + 1)) second_is
-        ∙ ap (λ (n : ℕ). drop (n + 1) (past line)) (digits_of g (g_in line) g_is)
-        ∙ sym (past_is (past line))
-
-    module _
-        (ng : g.digits ≡ 0 → ⊥)
-        (disk : Number)
-        (hd : disk ≡ number_of (field ended (drop (v.digits + 1 + (g.digits + 1)) line)))
+    pub read_all :
+        (disk : ℕ) (e : List ℕ) → Reads (front most c) (drop (length (front most c)) c) disk e →
+        then_some (ended e) (question v g disk) ≡ parsed line
+    read_all disk e hd = go (ended e) refl
       where
-        disk_is : disk ≡ number_of (disk_in line)
-        disk_is = hd ∙ ap (λ (xs : List ℕ). number_of (field ended xs)) third_is
+        there : {t : Bool} → ended e ≡ t → ended (drop (length (front most c)) c) ≡ t
+        there t = ap ended (sym hd.2) ∙ t
 
-        some_g : length (g_in line) ≡ 0 → ⊥
-        some_g w = ng (digits_of g (g_in line) g_is ∙ w)
-
-        pub unread_disk : disk.digits ≡ 0 → Unread ≡ parsed line
-        unread_disk z = no_disk line some_v some_g (sym (digits_of disk (disk_in line) disk_is) ∙ z)
-
-        pub read_all : (disk.digits ≡ 0 → ⊥) → Asked (question v.value g.value disk.value) ≡ parsed line
-        read_all z =
-            rw (hv, g_is, disk_is)
-            (all_three line some_v some_g (λ w. z (digits_of disk (disk_in line) disk_is ∙ w)))
+        go : (t : Bool) → ended e ≡ t → then_some t (question v g disk) ≡ parsed line
+        go true t =
+            let x : g_in line ≡ field spaced b = ap (field spaced) (sym hv.2) in
+            let y : disk_in line ≡ front most c = ap (field ended) (sym c_is) ∙ field_found ended c (there t) in
+            rw (hv.1, hg.1, hd.1, ← x, ← y) (all_three line hv.0 g_there (λ z. hd.0 (sym y ∙ z)))
+        go false t = no_disk line hv.0 g_there (ap (field ended) (sym c_is) ∙ field_none ended c (there t))

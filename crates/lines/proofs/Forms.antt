@@ -1,18 +1,16 @@
 -- A line is read exactly if it has the form that 01 names. Assumes nothing.
-use Prim.Native.Nat.{ℕ, ◌+◌}
+use Prim.Native.Nat.{ℕ, ◌+◌, ◌≤◌}
 use mathlib.Core.Path.{◌≡◌, refl, sym, ap, ◌∙◌}
 use mathlib.Core.Bool.{Bool, true, false}
-use mathlib.Core.Logic.{◌⊎◌, inl, inr}
+use mathlib.Core.Logic.{◌⊎◌, inl, inr, ◌≢◌}
 use mathlib.Core.List.{List, [], ◌∷◌, ◌++◌, append_assoc}
 use native.Mathlib.Omega.{arith}
-use lib.Dec.{eqb}
 use lib.ListN.{length, drop}
 use lib.Seq.{drop-append_seam, drop-append-add, drop-drop}
-use borrow.Author.Tests.{eqb-true, eqb-false}
-use Rattle.counting.proofs.Bools.{bool_either, bool_not_both}
+use borrow.Author.Tests.{eqb-true}
+use Rattle.std.specs.Prelude.{Some, None}
 use Rattle.decimals.specs.Decimal.{is_digit, decimal, space, line_end}
-use Rattle.lines.specs.declared.Parsed.{Parsed}
-use Rattle.lines.specs.declared.Parsed.TheVariants.{Asked, Unread}
+use Rattle.lines.specs.declared.Question.{Question}
 use Rattle.lines.specs.Line.{front, most, starts_digit, spaced, ended, field, past, v_in, g_in, disk_in, question, parsed}
 use Rattle.lines.specs.Theorems.{Decimal, Form}
 use Rattle.lines.proofs.Fronts.{front_of, front_append, field_found, field_some}
@@ -20,32 +18,36 @@ use Rattle.lines.proofs.Answers.{no_v, no_g, no_disk, all_three, past_is}
 
 -- ---- what was read has the form
 
+one_at_least : (xs : List ℕ) → xs ≢ [] → 1 ≤ length xs
+one_at_least [] h = absurd (h refl)
+one_at_least (x ∷ xs) h = omega arith
+
 -- a field that is not empty is one to nine digits
 field_decimal :
-    (test : List ℕ → Bool) (xs : List ℕ) → (length (field test xs) ≡ 0 → ⊥) →
+    (test : List ℕ → Bool) (xs : List ℕ) → field test xs ≢ [] →
     Decimal (field test xs) (decimal (field test xs))
 field_decimal test xs h =
     let F = front_of xs in
     let e = (field_some test xs h).0 in
     record {
       digits = rw e F.digits;
-      one = omega arith;
+      one = one_at_least (field test xs) h;
       nine = rw e F.few;
       value = refl;
     }
 
 -- and stands at the front
 field_front :
-    (test : List ℕ → Bool) (xs : List ℕ) → (length (field test xs) ≡ 0 → ⊥) →
+    (test : List ℕ → Bool) (xs : List ℕ) → field test xs ≢ [] →
     xs ≡ field test xs ++ drop (length (field test xs)) xs
 field_front test xs h = rw (field_some test xs h).0 (front_of xs).there
 
 -- what comes after a number and its space
 space_first : (ys : List ℕ) → spaced ys ≡ true → ys ≡ space ∷ drop 1 ys
-space_first [] h = bool_not_both false h refl
+space_first [] h = absurd (cc)
 space_first (y ∷ ys) h = ap (λ (x : ℕ). x ∷ ys) (eqb-true y space h)
 
-spaced_split : (xs : List ℕ) → (length (field spaced xs) ≡ 0 → ⊥) → xs ≡ field spaced xs ++ space ∷ past xs
+spaced_split : (xs : List ℕ) → field spaced xs ≢ [] → xs ≡ field spaced xs ++ space ∷ past xs
 spaced_split xs h =
     let a = field spaced xs in
     let e = space_first (drop (length a) xs) (field_some spaced xs h).1 in
@@ -55,7 +57,7 @@ spaced_split xs h =
 end_is : (e : List ℕ) → ended e ≡ true → (e ≡ []) ⊎ (e ≡ line_end ∷ [])
 end_is [] h = inl refl
 end_is (x ∷ []) h = inr (ap (λ (y : ℕ). y ∷ []) (eqb-true x line_end h))
-end_is (x ∷ y ∷ xs) h = bool_not_both false h refl
+end_is (x ∷ y ∷ xs) h = absurd (cc)
 
 -- the three fields, one after the other
 three_split :
@@ -64,7 +66,7 @@ three_split :
 three_split line a b c e p q h i j = rw (h, i, j, append_assoc, append_assoc)
 
 read_form :
-    (line : List ℕ) → (length (v_in line) ≡ 0 → ⊥) → (length (g_in line) ≡ 0 → ⊥) → (length (disk_in line) ≡ 0 → ⊥) →
+    (line : List ℕ) → v_in line ≢ [] → g_in line ≢ [] → disk_in line ≢ [] →
     Form line (decimal (v_in line)) (decimal (g_in line)) (decimal (disk_in line))
 read_form line v g d =
     let e = drop (length (disk_in line)) (past (past line)) in
@@ -82,59 +84,40 @@ read_form line v g d =
           (spaced_split (past line) g) (field_front ended (past (past line)) d);
     }
 
--- ---- the numbers of an answer
-
-abbrev asked : Parsed → Bool
-asked (Asked q) = true
-asked Unread = false
-
-abbrev v_of : Parsed → ℕ
-v_of (Asked q) = q.v
-v_of Unread = 0
-
-abbrev g_of : Parsed → ℕ
-g_of (Asked q) = q.g
-g_of Unread = 0
-
-abbrev disk_of : Parsed → ℕ
-disk_of (Asked q) = q.disk
-disk_of Unread = 0
-
-pub not_unread : {X : Type 0} (line : List ℕ) (v g disk : ℕ) → parsed line ≡ Asked (question v g disk) → Unread ≡ parsed line → X
-not_unread line v g disk h u = bool_not_both (asked (parsed line)) (ap asked h) (sym (ap asked u))
-
 -- the line is read, or one of its fields is empty
 abbrev Cases : List ℕ → Type 0
-Cases line =
-    (Unread ≡ parsed line) ⊎ ((length (v_in line) ≡ 0 → ⊥) × (length (g_in line) ≡ 0 → ⊥) × (length (disk_in line) ≡ 0 → ⊥))
+Cases line = (None ≡ parsed line) ⊎ ((v_in line ≢ []) × (g_in line ≢ []) × (disk_in line ≢ []))
+
+none_or_some : (xs : List ℕ) → (xs ≡ []) ⊎ (xs ≢ [])
+none_or_some [] = inl refl
+none_or_some (x ∷ xs) = inr (λ e. cc)
 
 cases : (line : List ℕ) → Cases line
-cases line = first (bool_either (eqb (length (v_in line)) 0))
+cases line = first (none_or_some (v_in line))
   where
-    third :
-        (length (v_in line) ≡ 0 → ⊥) → (length (g_in line) ≡ 0 → ⊥) →
-        (eqb (length (disk_in line)) 0 ≡ true) ⊎ (eqb (length (disk_in line)) 0 ≡ false) → Cases line
-    third v g (inl z) = inl (no_disk line v g (eqb-true (length (disk_in line)) 0 z))
-    third v g (inr z) = inr (v, g, eqb-false (length (disk_in line)) 0 z)
+    third : v_in line ≢ [] → g_in line ≢ [] → (disk_in line ≡ []) ⊎ (disk_in line ≢ []) → Cases line
+    third v g (inl z) = inl (no_disk line v g z)
+    third v g (inr z) = inr (v, g, z)
 
-    second : (length (v_in line) ≡ 0 → ⊥) → (eqb (length (g_in line)) 0 ≡ true) ⊎ (eqb (length (g_in line)) 0 ≡ false) → Cases line
-    second v (inl z) = inl (no_g line v (eqb-true (length (g_in line)) 0 z))
-    second v (inr z) = third v (eqb-false (length (g_in line)) 0 z) (bool_either (eqb (length (disk_in line)) 0))
+    second : v_in line ≢ [] → (g_in line ≡ []) ⊎ (g_in line ≢ []) → Cases line
+    second v (inl z) = inl (no_g line v z)
+    second v (inr z) = third v z (none_or_some (disk_in line))
 
-    first : (eqb (length (v_in line)) 0 ≡ true) ⊎ (eqb (length (v_in line)) 0 ≡ false) → Cases line
-    first (inl z) = inl (no_v line (eqb-true (length (v_in line)) 0 z))
-    first (inr z) = second (eqb-false (length (v_in line)) 0 z) (bool_either (eqb (length (g_in line)) 0))
+    first : (v_in line ≡ []) ⊎ (v_in line ≢ []) → Cases line
+    first (inl z) = inl (no_v line z)
+    first (inr z) = second z (none_or_some (g_in line))
 
-pub has_form : (line : List ℕ) (v g disk : ℕ) → parsed line ≡ Asked (question v g disk) → Form line v g disk
+pub has_form : (line : List ℕ) (v g disk : ℕ) → parsed line ≡ Some (question v g disk) → Form line v g disk
 has_form line v g disk h = go (cases line)
   where
     go : Cases line → Form line v g disk
-    go (inl u) = not_unread line v g disk h u
+    go (inl u) = absurd (cc (h, u))
     go (inr n) =
         let s = all_three line n.0 n.1 n.2 ∙ h in
-        let x : decimal (v_in line) ≡ v = ap v_of s in
-        let y : decimal (g_in line) ≡ g = ap g_of s in
-        let z : decimal (disk_in line) ≡ disk = ap disk_of s in
+        let q : question (decimal (v_in line)) (decimal (g_in line)) (decimal (disk_in line)) ≡ question v g disk = cc s in
+        let x : decimal (v_in line) ≡ v = ap (λ (r : Question). r.v) q in
+        let y : decimal (g_in line) ≡ g = ap (λ (r : Question). r.g) q in
+        let z : decimal (disk_in line) ≡ disk = ap (λ (r : Question). r.disk) q in
         rw (← x, ← y, ← z) (read_form line n.0 n.1 n.2)
 
 -- ---- what has the form is read
@@ -164,10 +147,10 @@ end_field c e n D (inr h) = rw h (field_is ended c (line_end ∷ []) n D refl re
 three_join : (a b c e : List ℕ) → a ++ space ∷ b ++ space ∷ c ++ e ≡ a ++ space ∷ (b ++ space ∷ (c ++ e))
 three_join a b c e = rw (append_assoc, append_assoc)
 
-some_digits : (xs ys : List ℕ) (n : ℕ) → Decimal ys n → xs ≡ ys → length xs ≡ 0 → ⊥
-some_digits xs ys n D e z = let l = D.one in let s = ap length e in omega arith
+some_digits : (xs ys : List ℕ) (n : ℕ) → Decimal ys n → xs ≡ ys → xs ≢ []
+some_digits xs ys n D e z = let l = D.one in let s = ap length (sym e ∙ z) in omega arith
 
-pub form_read : (line : List ℕ) (v g disk : ℕ) → Form line v g disk → parsed line ≡ Asked (question v g disk)
+pub form_read : (line : List ℕ) (v g disk : ℕ) → Form line v g disk → parsed line ≡ Some (question v g disk)
 form_read line v g disk F =
     let q = F.c ++ F.e in
     let p = F.b ++ space ∷ q in
@@ -184,10 +167,10 @@ form_read line v g disk F =
 
 -- ---- and no other line
 
-pub no_form_unread : (line : List ℕ) → ((v g disk : ℕ) → Form line v g disk → ⊥) → parsed line ≡ Unread
+pub no_form_unread : (line : List ℕ) → ((v g disk : ℕ) → Form line v g disk → ⊥) → parsed line ≡ None
 no_form_unread line h = go (cases line)
   where
-    go : Cases line → parsed line ≡ Unread
+    go : Cases line → parsed line ≡ None
     go (inl u) = sym u
     go (inr n) =
         absurd (h (decimal (v_in line)) (decimal (g_in line)) (decimal (disk_in line)) (read_form line n.0 n.1 n.2))

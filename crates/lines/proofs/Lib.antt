@@ -1,5 +1,4 @@
 pub mod Fronts
-pub mod Bytes
 pub mod Reading
 pub mod Answers
 pub mod Forms

@@ -1,11 +1,8 @@
 -- 01, "Proved examples": the plan printer "reads one line, v, g and disk in decimal, one to nine digits each, with single
 -- spaces, with or without a line end". Assumes nothing.
-use Rattle.std.specs.Prelude.{ℕ, zero, suc, ◌+◌, Bool, true, false, cond, not, ◌&&◌, List, [], ◌∷◌, length, drop, eqb}
+use Rattle.std.specs.Prelude.{ℕ, zero, suc, ◌+◌, ◌≡◌, ◌≢◌, Bool, true, false, cond, not, ◌&&◌, List, [], ◌∷◌, length, drop, eqb, Option, Some, None}
 use Rattle.decimals.specs.Decimal.{is_digit, decimal, space, line_end}
-use Rattle.lines.specs.declared.Number.{Number}
 use Rattle.lines.specs.declared.Question.{Question}
-use Rattle.lines.specs.declared.Parsed.{Parsed}
-use Rattle.lines.specs.declared.Parsed.TheVariants.{Asked, Unread}
 
 -- the digits at the front, n at most
 unfoldable pub front : (n : ℕ) → List ℕ → List ℕ
@@ -57,12 +54,12 @@ abbrev pub question : (v g disk : ℕ) → Question
 question v g disk = record { v = v; g = g; disk = disk }
 
 -- what the line asks
-unfoldable pub parsed : List ℕ → Parsed
+unfoldable pub parsed : List ℕ → Option Question
 parsed line =
     cond (some (v_in line) && (some (g_in line) && some (disk_in line)))
-    (Asked (question (decimal (v_in line)) (decimal (g_in line)) (decimal (disk_in line))))
-    Unread
+    (Some (question (decimal (v_in line)) (decimal (g_in line)) (decimal (disk_in line))))
+    None
 
--- a string of digits as the code hands it on
-abbrev pub number_of : List ℕ → Number
-number_of xs = record { value = decimal xs; digits = length xs }
+-- n is the number of the digits, which are one at least, and e what comes after them
+abbrev pub Reads : (digits after : List ℕ) (n : ℕ) (e : List ℕ) → Type 0
+Reads digits after n e = (digits ≢ []) × (n ≡ decimal digits) × (e ≡ after)

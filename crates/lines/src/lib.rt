@@ -1,8 +1,9 @@
 // The line that the plan printer reads.
 #![tactic(auto)]
 
-ghost use Rattle.std.specs.Prelude.{◌≡◌, ◌≤◌, length, drop};
-ghost use Rattle.lines.specs.Line.{front, most, starts_digit, spaced, ended, field, number_of, parsed};
+ghost use Rattle.std.specs.Prelude.{◌≡◌, ◌≤◌, [], length, drop, MatchOption};
+ghost use Rattle.decimals.specs.Decimal.{Digits, decimal};
+ghost use Rattle.lines.specs.Line.{front, most, spaced, ended, field, past, Reads, parsed};
 
 // "v, g and disk" (01).
 #[derive(Clone, Copy)]
@@ -12,131 +13,61 @@ pub struct Question {
     pub disk: u32,
 }
 
-// What a line asks, or that it is "a line of another form".
-#[derive(Clone, Copy)]
-pub enum Parsed {
-    Asked(Question),
-    Unread,
-}
-
-// Digits in the line: how many they are, and their number. No digits: none of the form were found.
-#[derive(Clone, Copy)]
-struct Number {
-    value: u32,
-    digits: usize,
-}
-
-fn wide(x: u8) -> u32
-    ensures { result ≡ x }
+// How many digits stand at the front of a line, nine at most.
+fn count_digits(line: &[u8]) -> usize
+    ensures { result ≡ length (front most line.now) }
 {
-    x as u32
+    line.iter()
+        .take(9)
+        .take_while(|x| x.is_ascii_digit())
+        .count()
 }
 
-// Whether a digit stands at p.
-fn digit_at(line: &[u8], p: usize) -> bool
-    ensures { result ≡ starts_digit (drop p line.now) }
+// The number that digits stand for, nine at most.
+fn number_of(digits: &[u8]) -> u32
+    requires digits { Digits digits.now }
+    requires nine { length digits.now ≤ most }
+    ensures { result ≡ decimal digits.now }
 {
-    if p >= line.len() {
-        return false;
+    let mut number = 0;
+    for x in digits {
+        number = number * 10 + u32::from(*x - b'0');
     }
-    let x = line[p];
-    48 <= x && x <= 57
+    number
 }
 
-// Whether a space stands at p.
-fn space_at(line: &[u8], p: usize) -> bool
-    ensures { result ≡ spaced (drop p line.now) }
+// One to nine digits at the front of a line, as their number, and what comes after them.
+fn read_number(line: &[u8]) -> Option<(u32, &[u8])>
+    ensures { MatchOption result (front most line.now ≡ []) (λ x. Reads (front most line.now) (drop (length (front most line.now)) line.now) x.0 x.1.now) }
 {
-    if p >= line.len() {
-        return false;
+    let (digits, rest) = line.split_at(count_digits(line));
+    if digits.is_empty() {
+        return None;
     }
-    line[p] == b' '
+    Some((number_of(digits), rest))
 }
 
-// Whether the line ends at p, with or without a line end.
-fn end_at(line: &[u8], p: usize) -> bool
-    requires { p ≤ length line.now }
-    ensures { result ≡ ended (drop p line.now) }
+// The same if a space follows them, and what comes after the space.
+fn read_number_and_space(line: &[u8]) -> Option<(u32, &[u8])>
+    ensures { MatchOption result (field spaced line.now ≡ []) (λ x. Reads (field spaced line.now) (past line.now) x.0 x.1.now) }
 {
-    let left = line.len() - p;
-    if left == 0 {
-        return true;
-    }
-    if left == 1 {
-        return line[p] == b'\n';
-    }
-    false
+    let (number, rest) = read_number(line)?;
+    Some((number, rest.strip_prefix(b" ")?))
 }
 
-// The digits from p on, nine at most.
-fn number_at(line: &[u8], p: usize) -> Number
-    requires { p ≤ length line.now }
-    ensures { result ≡ number_of (front most (drop p line.now)) }
+// Whether nothing comes but a line end.
+fn is_end(rest: &[u8]) -> bool
+    ensures { result ≡ ended rest.now }
 {
-    let mut value: u32 = 0;
-    let mut n: usize = 0;
-    while n < 9 {
-        let at = p + n;
-        if !digit_at(line, at) {
-            return Number { value, digits: n };
-        }
-        value = value * 10 + wide(line[at]) - 48;
-        n += 1;
-    }
-    Number { value, digits: n }
-}
-
-// The same if a space follows them.
-fn number_before_space(line: &[u8], p: usize) -> Number
-    requires { p ≤ length line.now }
-    ensures { result ≡ number_of (field spaced (drop p line.now)) }
-{
-    let found = number_at(line, p);
-    if space_at(line, p + found.digits) {
-        return found;
-    }
-    Number {
-        value: 0,
-        digits: 0,
-    }
-}
-
-// The same if the line ends after them.
-fn number_before_end(line: &[u8], p: usize) -> Number
-    requires { p ≤ length line.now }
-    ensures { result ≡ number_of (field ended (drop p line.now)) }
-{
-    let found = number_at(line, p);
-    if end_at(line, p + found.digits) {
-        return found;
-    }
-    Number {
-        value: 0,
-        digits: 0,
-    }
+    matches!(rest, [] | [b'\n'])
 }
 
 // "It reads one line, v, g and disk in decimal, one to nine digits each, with single spaces, with or without a line end" (01).
-pub fn parse(line: &[u8]) -> Parsed
+pub fn parse(line: &[u8]) -> Option<Question>
     ensures { result ≡ parsed line.now }
 {
-    let v = number_before_space(line, 0);
-    if v.digits == 0 {
-        return Parsed::Unread;
-    }
-    let second = v.digits + 1;
-    let g = number_before_space(line, second);
-    if g.digits == 0 {
-        return Parsed::Unread;
-    }
-    let third = second + (g.digits + 1);
-    let disk = number_before_end(line, third);
-    if disk.digits == 0 {
-        return Parsed::Unread;
-    }
-    Parsed::Asked(Question {
-        v: v.value,
-        g: g.value,
-        disk: disk.value,
-    })
+    let (v, rest) = read_number_and_space(line)?;
+    let (g, rest) = read_number_and_space(rest)?;
+    let (disk, rest) = read_number(rest)?;
+    is_end(rest).then_some(Question { v, g, disk })
 }

@@ -16,6 +16,7 @@ use Rattle.refusal.specs.Refusal.{accepted, verdict}
 use Rattle.refusal.specs.Due.{NoneDue}
 use Rattle.refusal.proofs.Answer.{accepted_append}
 use Rattle.refusal.proofs.Exactness.{exact}
+use Rattle.refusal.proofs.Same.{same_answer}
 use Rattle.geometry.specs.declared.Geometry.{Geometry}
 use Rattle.geometry.specs.Geometry.{units_of}
 use Rattle.design.specs.Design.{Laid}
@@ -25,18 +26,14 @@ use Rattle.array.specs.Reasons.{array_rows}
 use Rattle.array.proofs.Fits.{ready}
 use Rattle.array.proofs.Reasons.{array_rows_fit}
 use Rattle.completing.specs.Theorems.{lost_disks}
-use Rattle.rebuilding.specs.declared.Rebuilt.{Rebuilt}
-use Rattle.rebuilding.specs.declared.Rebuilt.TheVariants.{Restored}
 use Rattle.rebuilding.specs.Rebuild.{rebuilt_of}
 use Rattle.rebuilding.proofs.TwoResults.{rebuild_accepted}
 use Rattle.rebuilding.proofs.Accepted.{three_accepted}
 use Rattle.sources.specs.Plan.{plan_of}
-use Rattle.planning.specs.declared.Planned.{Planned}
-use Rattle.planning.specs.declared.Planned.TheVariants.{Triples}
 use Rattle.planning.specs.Plan.{triples_of, planned}
 use Rattle.planning.proofs.Bounds.{plan_length}
 use Rattle.planning.proofs.Answers.{goes}
-use Rattle.planning.proofs.TwoResults.{same_planned, plan_accepted}
+use Rattle.planning.proofs.TwoResults.{plan_accepted}
 use Rattle.onedisk.specs.OneDisk.{OneLost}
 use Rattle.onedisk.specs.Sources.{byte_of, Triple, triples_in, source_sum, Shares}
 use Rattle.onedisk.specs.Changes.{Follows}
@@ -45,6 +42,8 @@ use Rattle.onedisk.specs.Theorems.{OneLostDiskIsRebuilt, TheLostDiskIsPlanned, D
 use Rattle.onedisk.proofs.Planned.{each_rebuilt_byte_is_the_XOR_of_its_planned_sources}
 use Rattle.onedisk.proofs.Shares.{each_disk_gives_its_share}
 use Rattle.onedisk.proofs.Changes.{a_changed_byte_changes_what_the_plan_says}
+use Rattle.std.specs.Prelude.{Result, Ok}
+use Rattle.refusal.specs.declared.Refusal.{Refusal}
 
 -- one disk is counted
 one_counted : (G : Geometry) (marks : List ℕ) (x : ℕ) → OneLost G marks x → lost_disks G marks ≡ 1
@@ -56,8 +55,8 @@ pub one_lost_disk_is_rebuilt : OneLostDiskIsRebuilt
 one_lost_disk_is_rebuilt κs G design array marks x h r bytes left p =
     let one : lost_disks G marks.now ≡ 1 = one_counted G marks.now x h.one_lost in
     three_accepted κs G design array marks h.none_due r bytes left p (omega (arith, one))
-    ∙ ap (λ (n : ℕ). Restored (n * units_of G)) one
-    ∙ ap Restored (one-mul (units_of G))
+    ∙ ap (λ (n : ℕ). Ok (n * units_of G)) one
+    ∙ ap Ok (one-mul (units_of G))
 
 -- none of 2 to 8 refuses
 array_fine :
@@ -74,7 +73,7 @@ sizes_fine G d bytes marks none = (accepted_append (sizes_rules G d) _ (array_fi
 
 pub the_lost_disk_is_planned : TheLostDiskIsPlanned
 the_lost_disk_is_planned κs G design array marks x h list room r last p =
-    same_planned r (Triples (triples_of G))
+    same_answer r (Ok (triples_of G))
     (p.0
     ∙ sym (goes G design.now x list.now (sizes_fine G design.now (length array.now) marks.now h.none_due)
     h.one_lost.disk room (triples_of G) refl _ refl).0)
@@ -82,24 +81,24 @@ the_lost_disk_is_planned κs G design array marks x h list room r last p =
 -- what an accepted rebuild leaves
 rebuilt_is :
     (κs : Lfts 3) (G : Geometry) (design : Bor (List ℕ)) (array marks : MutBor (List ℕ)) (x : ℕ) → Ready G design array marks x →
-    (r : Rebuilt) (bytes left : MutBor (List ℕ)) → Rebuilds κs G design array marks r bytes left →
+    (r : Result ℕ Refusal) (bytes left : MutBor (List ℕ)) → Rebuilds κs G design array marks r bytes left →
     bytes.now ≡ rebuilt_of G design.now marks.now array.now
 rebuilt_is κs G design array marks x h r bytes left p =
     (rebuild_accepted κs G design array marks (units_of G) bytes left
-    (subst (λ (s : Rebuilt). Rebuilds κs G design array marks s bytes left)
+    (subst (λ (s : Result ℕ Refusal). Rebuilds κs G design array marks s bytes left)
     (one_lost_disk_is_rebuilt κs G design array marks x h r bytes left p) p)
     ).1
 
 -- the plan that an accepted plan call leaves
 plan_left :
     (κs : Lfts 2) (G : Geometry) (design : Bor (List ℕ)) (array marks : MutBor (List ℕ)) (x : ℕ) → Ready G design array marks x →
-    (list : MutBor (List ℕ)) → 3 * triples_of G ≤ length list.now → (r : Planned) (last : MutBor (List ℕ)) →
+    (list : MutBor (List ℕ)) → 3 * triples_of G ≤ length list.now → (r : Result ℕ Refusal) (last : MutBor (List ℕ)) →
     Plans κs G design x list r last → take (3 * triples_of G) last.now ≡ plan_of G design.now x
 unfolding planned
 plan_left κs G design array marks x h list room r last p =
     let q =
     plan_accepted κs G design (record { 0 = x }) list (triples_of G) last
-    (subst (λ (s : Planned). Plans κs G design x list s last)
+    (subst (λ (s : Result ℕ Refusal). Plans κs G design x list s last)
     (the_lost_disk_is_planned κs G design array marks x h list room r last p) p)
     in
     let laid : Laid G design.now =

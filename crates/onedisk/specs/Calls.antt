@@ -6,23 +6,23 @@ use Rattle.refusal.specs.Due.{NoneDue}
 use Rattle.geometry.specs.declared.Geometry.{Geometry}
 use Rattle.geometry.specs.Geometry.{units_of}
 use Rattle.array.specs.Reasons.{array_rows}
-use Rattle.rebuilding.specs.declared.Rebuilt.{Rebuilt}
 use Rattle.rebuilding.proofs.rebuild.Reads as rebuild
-use Rattle.planning.specs.declared.Planned.{Planned}
 use Rattle.planning.proofs.plan.Reads as plan
 use Rattle.onedisk.specs.OneDisk.{OneLost}
 use Rattle.onedisk.specs.Sources.{byte_of, Triple, source_sum, Shares}
 use Rattle.onedisk.specs.Changes.{OneByteDiffers, Follows}
+use Rattle.std.specs.Prelude.{Result}
+use Rattle.refusal.specs.declared.Refusal.{Refusal}
 
 -- rebuild may answer r, and array and marks may then be held as `bytes` and `left`
 abbrev pub Rebuilds :
-    (κs : Lfts 3) → Geometry → (design : Bor (List ℕ)) (array marks : MutBor (List ℕ)) → Rebuilt → (bytes left : MutBor (List ℕ)) → Type 0
+    (κs : Lfts 3) → Geometry → (design : Bor (List ℕ)) (array marks : MutBor (List ℕ)) → Result ℕ Refusal → (bytes left : MutBor (List ℕ)) → Type 0
 Rebuilds κs G design array marks r bytes left =
     rebuild.Post κs (G, (design, (array, (marks, tt)))) r (G, (design, (bytes, (left, tt))))
 
 -- the plan call for disk x may answer r, and the list may then be held as `last`
 abbrev pub Plans :
-    (κs : Lfts 2) → Geometry → (design : Bor (List ℕ)) → (x : ℕ) → (list : MutBor (List ℕ)) → Planned →
+    (κs : Lfts 2) → Geometry → (design : Bor (List ℕ)) → (x : ℕ) → (list : MutBor (List ℕ)) → Result ℕ Refusal →
     (last : MutBor (List ℕ)) → Type 0
 Plans κs G design x list r last =
     plan.Post κs (G, (design, (record { 0 = x }, (list, tt)))) r (G, (design, (record { 0 = x }, (last, tt))))
@@ -41,5 +41,5 @@ pub record AsPlanned
     pub shares : Shares G x plan
     pub changes :
         (z w j e : ℕ) (changed marks' : MutBor (List ℕ)) → OneByteDiffers G array.now changed.now z w j e →
-        marks'.now ≡ marks.now → (r : Rebuilt) (bytes' left' : MutBor (List ℕ)) →
+        marks'.now ≡ marks.now → (r : Result ℕ Refusal) (bytes' left' : MutBor (List ℕ)) →
         Rebuilds κs G design changed marks' r bytes' left' → Follows G x plan bytes.now bytes'.now z w j e

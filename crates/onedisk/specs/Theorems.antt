@@ -6,17 +6,15 @@ use Rattle.geometry.specs.declared.Geometry.{Geometry}
 use Rattle.geometry.specs.Geometry.{tuples_of, disks_of, units_of, bytes_of}
 use Rattle.design.specs.Design.{Laid}
 use Rattle.reaching.specs.Reach.{steps_of}
-use Rattle.rebuilding.specs.declared.Rebuilt.{Rebuilt}
-use Rattle.rebuilding.specs.declared.Rebuilt.TheVariants.{Restored}
 use Rattle.rebuilding.specs.Rebuild.{rebuilt_of}
 use Rattle.sources.specs.Plan.{plan_of}
-use Rattle.planning.specs.declared.Planned.{Planned}
-use Rattle.planning.specs.declared.Planned.TheVariants.{Triples}
 use Rattle.planning.specs.Plan.{triples_of}
 use Rattle.onedisk.specs.OneDisk.{OneLost, disk_steps}
 use Rattle.onedisk.specs.Sources.{byte_of, triples_in, source_sum, Shares}
 use Rattle.onedisk.specs.Changes.{OneByteDiffers, Follows}
 use Rattle.onedisk.specs.Calls.{Rebuilds, Plans, Ready, AsPlanned}
+use Rattle.std.specs.Prelude.{Result, Ok}
+use Rattle.refusal.specs.declared.Refusal.{Refusal}
 
 -- "A missing unit whose outer set lacks only it becomes the XOR of the rest; otherwise, if its inner set lacks only it": with
 -- disk x lost, each tuple that names its group restores the g units of x's column, row by row upwards, from their outer
@@ -57,21 +55,21 @@ AChangedByteChangesWhatThePlanSays =
 abbrev pub OneLostDiskIsRebuilt : Type 0
 OneLostDiskIsRebuilt =
     (κs : Lfts 3) (G : Geometry) (design : Bor (List ℕ)) (array marks : MutBor (List ℕ)) (x : ℕ) → Ready G design array marks x →
-    (r : Rebuilt) (bytes left : MutBor (List ℕ)) → Rebuilds κs G design array marks r bytes left → r ≡ Restored (units_of G)
+    (r : Result ℕ Refusal) (bytes left : MutBor (List ℕ)) → Rebuilds κs G design array marks r bytes left → r ≡ Ok (units_of G)
 
 -- and the plan, of a list that is not shorter than 3·r(g-1)k: only r(g-1)k can be
 abbrev pub TheLostDiskIsPlanned : Type 0
 TheLostDiskIsPlanned =
     (κs : Lfts 2) (G : Geometry) (design : Bor (List ℕ)) (array marks : MutBor (List ℕ)) (x : ℕ) → Ready G design array marks x →
-    (list : MutBor (List ℕ)) → 3 * triples_of G ≤ length list.now → (r : Planned) (last : MutBor (List ℕ)) →
-    Plans κs G design x list r last → r ≡ Triples (triples_of G)
+    (list : MutBor (List ℕ)) → 3 * triples_of G ≤ length list.now → (r : Result ℕ Refusal) (last : MutBor (List ℕ)) →
+    Plans κs G design x list r last → r ≡ Ok (triples_of G)
 
 -- demand 3: both calls are accepted, and what rebuild leaves of the lost disk is what the plan, as the plan call leaves it, says
 abbrev pub Demand3 : Type 0
 Demand3 =
     (κs κt : Lfts 3) (κp : Lfts 2) (G : Geometry) (design : Bor (List ℕ)) (array marks list : MutBor (List ℕ)) (x : ℕ) →
     Ready G design array marks x → 3 * triples_of G ≤ length list.now →
-    (r : Rebuilt) (bytes left : MutBor (List ℕ)) → Rebuilds κs G design array marks r bytes left →
-    (q : Planned) (last : MutBor (List ℕ)) → Plans κp G design x list q last →
-    (r ≡ Restored (units_of G)) × (q ≡ Triples (triples_of G))
+    (r : Result ℕ Refusal) (bytes left : MutBor (List ℕ)) → Rebuilds κs G design array marks r bytes left →
+    (q : Result ℕ Refusal) (last : MutBor (List ℕ)) → Plans κp G design x list q last →
+    (r ≡ Ok (units_of G)) × (q ≡ Ok (triples_of G))
     × AsPlanned κt G design array marks x bytes (triples_in (take (3 * triples_of G) last.now))

@@ -1,12 +1,10 @@
 -- 01, "Calls" (plan): the lent list at return, and "Refusal numbers", rows 9 and 14 for the plan. Assumes nothing.
 use Rattle.std.specs.Prelude.{ℕ, ◌-◌, ◌*◌, List, [], ◌∷◌, ◌++◌, ltb, leb, drop}
-use Rattle.refusal.specs.Refusal.{Rule, rule, Outcome, refused, accepted}
+use Rattle.refusal.specs.Refusal.{Rule, rule}
 use Rattle.geometry.specs.declared.Geometry.{Geometry}
 use Rattle.geometry.specs.Geometry.{parts_of, disks_of}
 use Rattle.sizes.specs.Sizes.{sizes_rules}
 use Rattle.sources.specs.Plan.{plan_of}
-use Rattle.planning.specs.declared.Planned.{Planned}
-use Rattle.planning.specs.declared.Planned.TheVariants.{Triples, Refused}
 
 -- "There are r(g-1)k triples" [for 1 ≤ g]
 unfoldable pub triples_of : Geometry → ℕ
@@ -20,8 +18,3 @@ planned G d disk old = plan_of G d disk ++ drop (3 * triples_of G) old
 unfoldable pub plan_rules : Geometry → (design : List ℕ) → (disk : ℕ) → (room : ℕ) → List Rule
 plan_rules G d disk room =
     sizes_rules G d ++ (rule 9 (leb (disks_of G) disk) 0 ∷ rule 14 (ltb room (3 * triples_of G)) 0 ∷ [])
-
--- 01's number, place and values for each answer
-abbrev pub planned_outcome : Planned → Outcome ℕ
-planned_outcome (Triples n) = accepted n
-planned_outcome (Refused x) = refused x.number x.place

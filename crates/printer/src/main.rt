@@ -12,7 +12,8 @@ fn read_line(input: &mut impl Read, line: &mut [u8]) -> io::Result<usize>
     ensures { IfOk result (λ n. n ≤ length line.new) }
 {
     let mut n = 0;
-    while n < line.len() {
+    // A read brings one byte at least, until no byte is wanted or none is left.
+    for _ in 0..line.len() {
         let more = input.read(&mut line[n..])?;
         if more == 0 {
             break;
@@ -24,9 +25,9 @@ fn read_line(input: &mut impl Read, line: &mut [u8]) -> io::Result<usize>
 
 fn main(rt: HostRuntime) -> io::Result<()> {
     // A line of the form has 30 bytes at most, so what fills 31 has another form, whatever follows it.
-    let mut line = [0u8; 31];
+    let mut line = [0; 31];
     let n = read_line(&mut rt.stdin(), &mut line)?;
-    let mut text = [0u8; 18000];
+    let mut text = [0; 18000];
     let end = printing::show(&line[..n], &mut text);
     rt.write_all(&text[..end])
 }

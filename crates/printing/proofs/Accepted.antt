@@ -3,7 +3,7 @@ use Prim.Native.Nat.{ℕ, ◌*◌, ◌≤◌, ◌<◌}
 use mathlib.Core.Path.{◌≡◌, sym, ap, ◌∙◌}
 use mathlib.Core.List.{List}
 use native.Mathlib.Omega.{arith}
-use lib.ListN.{length, take, drop, length-append}
+use lib.ListN.{length, take, drop}
 use lib.Seq.{take_at}
 use borrow.Author.Tests.{leb-false, ltb-false}
 use Rattle.refusal.specs.Refusal.{Outcome, refused, accepted, answer, kept}
@@ -16,12 +16,12 @@ use Rattle.held.specs.Held.{held_design, fill_rules}
 use Rattle.sources.specs.Plan.{plan_of}
 use Rattle.planning.specs.Plan.{triples_of, planned, plan_rules}
 use Rattle.planning.proofs.Bounds.{plan_length}
+use Rattle.std.specs.Prelude.{Some, None}
 use Rattle.decimals.specs.Decimal.{lines_of}
+use Rattle.decimals.proofs.Stores.{Put}
 use Rattle.lines.specs.declared.Question.{Question}
-use Rattle.lines.specs.declared.Parsed.TheVariants.{Asked, Unread}
 use Rattle.lines.specs.Line.{parsed}
 use Rattle.printing.specs.Shown.{shelf, room, show_rules, answered, answer_text, unread_text, shown}
-use Rattle.printing.proofs.Texts.{Front}
 use Rattle.printing.proofs.Small.{plan_room}
 
 module _ (q : Question) where
@@ -36,8 +36,8 @@ module _ (q : Question) where
 
   -- a refusal
   pub refused_text :
-      (n p : ℕ) → counted ≡ refused n p → (old : List ℕ) (r : ℕ) (last : List ℕ) → Front (answer_text (refused n p)) old r last →
-      Front (answer_text (answered q)) old r last
+      (n p : ℕ) → counted ≡ refused n p → (old : List ℕ) (r : ℕ) (last : List ℕ) → Put old (answer_text (refused n p)) r last →
+      Put old (answer_text (answered q)) r last
   refused_text n p e old r last f = rw (refused_at (show_rules q) (triples_of (shelf q)) plan n p e) f
 
   module _ (n : ℕ) (e : counted ≡ accepted n) where
@@ -81,21 +81,17 @@ module _ (q : Question) where
           (omega (arith, plan_room (shelf q) design parts.0 q.disk parts.1, plan_long, numbers_fit))
 
       pub plan_text :
-          (text : List ℕ) (r : ℕ) (after : List ℕ) → Front (lines_of (take (3 * n) last)) text r after →
-          Front (answer_text (answered q)) text r after
+          (text : List ℕ) (r : ℕ) (after : List ℕ) → Put text (lines_of (take (3 * n) last)) r after →
+          Put text (answer_text (answered q)) r after
       plan_text text r after f =
           rw (accepted_at (show_rules q) (triples_of (shelf q)) n plan e) (rw plan_taken at f)
 
 -- what is printed, by what the line asks
 module _ (line old : List ℕ) (r : ℕ) (last : List ℕ) where
-  pub unread_text_lem : parsed line ≡ Unread → Front unread_text old r last → Front (shown line) old r last
+  pub unread_text_lem : parsed line ≡ None → Put old unread_text r last → Put old (shown line) r last
   unfolding shown
   unread_text_lem e f = rw e f
 
-  pub asked_text : (q : Question) → parsed line ≡ Asked q → Front (answer_text (answered q)) old r last → Front (shown line) old r last
+  pub asked_text : (q : Question) → parsed line ≡ Some q → Put old (answer_text (answered q)) r last → Put old (shown line) r last
   unfolding shown
   asked_text q e f = rw e f
-
-  -- what is printed lies within the bytes
-  pub shown_inside : Front (shown line) old r last → r ≤ length last
-  shown_inside f = rw (f.1, length-append (shown line) (drop r old)) (omega (arith, f.0))

@@ -17,8 +17,7 @@ use Rattle.sizes.specs.Reasons.{Allowed}
 use Rattle.sources.specs.Plan.{plan_of}
 use Rattle.decimals.specs.Decimal.{space, line_end, lines_of}
 use Rattle.lines.specs.declared.Question.{Question}
-use Rattle.lines.specs.declared.Parsed.{Parsed}
-use Rattle.lines.specs.declared.Parsed.TheVariants.{Asked, Unread}
+use Rattle.std.specs.Prelude.{Option, Some, None}
 use Rattle.lines.specs.Line.{question, parsed}
 use Rattle.lines.specs.Theorems.{Form}
 use Rattle.lines.proofs.Forms.{has_form, form_read, no_form_unread}
@@ -27,7 +26,7 @@ use Rattle.printing.specs.Theorems.{NotAllowed, show_rows, ARefusalIsPrintedExac
 use Rattle.printing.proofs.Refusals.{show_exact}
 use Rattle.printing.proofs.Differ.{refused_number, refused_unread, lines_refused, lines_unread}
 
-unread_shown : (line : List ℕ) → parsed line ≡ Unread → shown line ≡ unread_text
+unread_shown : (line : List ℕ) → parsed line ≡ None → shown line ≡ unread_text
 unfolding shown
 unread_shown line e = rw e
 
@@ -104,11 +103,11 @@ a_refusal_is_printed_exactly_if_due line v g disk n F = (printed_due line v g di
 pub only_1_6_and_9_are_printed : Only1_6And9ArePrinted
 only_1_6_and_9_are_printed line n e = go (parsed line) refl
   where
-    go : (x : Parsed) → parsed line ≡ x → (n ≡ 1) ⊎ ((n ≡ 6) ⊎ (n ≡ 9))
-    go (Asked a) h =
+    go : (x : Option Question) → parsed line ≡ x → (n ≡ 1) ⊎ ((n ≡ 6) ⊎ (n ≡ 9))
+    go (Some a) h =
         let F = has_form line a.v a.g a.disk h in
         due_number line a.v a.g a.disk F n 0 (printed_due line a.v a.g a.disk F n e)
-    go Unread h = absurd (refused_unread n (sym e ∙ unread_shown line h))
+    go None h = absurd (refused_unread n (sym e ∙ unread_shown line h))
 
 pub else_the_plan_is_printed : ElseThePlanIsPrinted
 else_the_plan_is_printed line v g disk F s held allowed low = plan_shown line v g disk F s held allowed low

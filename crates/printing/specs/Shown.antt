@@ -1,5 +1,5 @@
 -- 01, "Proved examples": what the plan printer prints for a line, byte by byte. Assumes nothing.
-use Rattle.std.specs.Prelude.{ℕ, List, [], ◌∷◌, ◌++◌, length}
+use Rattle.std.specs.Prelude.{ℕ, List, [], ◌∷◌, ◌++◌, length, Option, Some, None}
 use Rattle.refusal.specs.Refusal.{Rule, Outcome, refused, accepted, answer}
 use Rattle.geometry.specs.declared.Geometry.{Geometry}
 use Rattle.held.specs.Held.{set_for, held_design, fill_rules}
@@ -7,8 +7,6 @@ use Rattle.sources.specs.Plan.{plan_of}
 use Rattle.planning.specs.Plan.{plan_rules}
 use Rattle.decimals.specs.Decimal.{followed, space, line_end, lines_of}
 use Rattle.lines.specs.declared.Question.{Question}
-use Rattle.lines.specs.declared.Parsed.{Parsed}
-use Rattle.lines.specs.declared.Parsed.TheVariants.{Asked, Unread}
 use Rattle.lines.specs.Line.{parsed}
 
 -- "takes the held set of v and u = 1"
@@ -41,9 +39,9 @@ answer_text (refused n p) = refused_text n
 abbrev pub unread_text : List ℕ
 unread_text = 117 ∷ 110 ∷ 114 ∷ 101 ∷ 97 ∷ 100 ∷ line_end ∷ []
 
-abbrev pub text_for : Parsed → List ℕ
-text_for (Asked q) = answer_text (answered q)
-text_for Unread = unread_text
+abbrev pub text_for : Option Question → List ℕ
+text_for (Some q) = answer_text (answered q)
+text_for None = unread_text
 
 -- what is printed for a line
 unfoldable pub shown : List ℕ → List ℕ

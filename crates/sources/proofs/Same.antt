@@ -2,11 +2,11 @@
 use Prim.Native.Nat.{ℕ, ◌+◌, ◌-◌, ◌*◌, ◌/◌, ◌<◌}
 use mathlib.Core.Path.{◌≡◌, refl, sym, ap, ap₂, subst, ◌∙◌}
 use mathlib.Core.Bool.{cond}
-use mathlib.Core.List.{List}
+use mathlib.Core.List.{List, []}
 use native.Mathlib.Nat.{add-zero}
 use native.Mathlib.Omega.{arith}
 use lib.Arith.{digits_lt, digits_div, digits_mod}
-use lib.Dec.{ltb}
+use lib.Dec.{ltb, eqb}
 use Rattle.geometry.specs.declared.Geometry.{Geometry}
 use Rattle.geometry.specs.Geometry.{parts_of, disks_of, units_of}
 use Rattle.design.specs.Design.{Laid}
@@ -14,14 +14,20 @@ use Rattle.region.specs.Columns.{label_column, diagonal_column}
 use Rattle.cells.specs.declared.Cell.{Cell}
 use Rattle.cells.specs.Cells.{cell, label_of, diagonal_of}
 use Rattle.cells.specs.Ranges.{CellIn}
+use Rattle.layout.specs.declared.Place.{Place}
 use Rattle.layout.specs.declared.Region.{Region}
 use Rattle.layout.specs.Regions.{region_of}
 use Rattle.layout.specs.Places.{in_region, place_of, cell_at}
 use Rattle.layout.proofs.Places.{cell_at_in}
 use Rattle.sources.specs.Plan.{lists_of, unit_plan, plan_below, plan_of}
-use Rattle.sources.specs.Written.{in_hand, RegionsOf, triple_of, unit_triples, row_triples, part_plan}
+use Rattle.sources.specs.Written.{in_hand, RegionsOf, triple_of, set_triples, unit_triples, row_triples, part_plan}
 use Rattle.sources.proofs.Lists.{lists_same, lists_times}
 use Rattle.sources.proofs.Sources.{cell_in_row}
+
+-- the triples of a set, where its members' places are the same
+set_same :
+    (f h : ℕ → Place) (q y n : ℕ) → ((e : ℕ) → e < n → f e ≡ h e) → set_triples f q y n ≡ set_triples h q y n
+set_same f h q y n same = lists_same _ _ n (λ e k. ap (λ (p : Place). cond (eqb e q) [] (triple_of y p)) (same e k))
 
 -- of one unit
 module _ (G : Geometry) (d : List ℕ) (ρ : ℕ → Region) (x : Cell) (h : CellIn G x)
@@ -30,10 +36,10 @@ module _ (G : Geometry) (d : List ℕ) (ρ : ℕ → Region) (x : Cell) (h : Cel
   unfolding unit_triples unit_plan place_of
   unit_same y =
       ap₂ (cond (ltb x.row (G.g - 1)))
-      (lists_same _ _ G.k (λ e k.
-      ap (λ (a : Region). triple_of e x.position y (in_region G a x.row (label_column G.g e x.row (label_of G x)))) (same e k)))
-      (lists_same _ _ G.g (λ e k.
-      ap (λ (a : Region). triple_of e x.row y (in_region G a e (diagonal_column G.g (diagonal_of G x) e))) (same x.position h.position)))
+      (set_same _ _ x.position y G.k
+      (λ e k. ap (λ (a : Region). in_region G a x.row (label_column G.g e x.row (label_of G x))) (same e k)))
+      (set_same _ _ x.row y G.g
+      (λ e k. ap (λ (a : Region). in_region G a e (diagonal_column G.g (diagonal_of G x) e)) (same x.position h.position)))
 
 -- of one part: its units' cells differ in their rows alone
 module _ (G : Geometry) (d : List ℕ) (L : Laid G d) (disk p : ℕ) (hd : disk < disks_of G) (hp : p < parts_of G) where
@@ -68,14 +74,13 @@ module _ (G : Geometry) (d : List ℕ) (L : Laid G d) (disk p : ℕ) (hd : disk 
         unit_same G d ρ (cell first.tuple.0 first.position i first.column) (cell_in_row G first i first_in k) same (p * G.g + i)
         ∙ ap (unit_plan G d (p * G.g + i)) (sym (cell_of_row i k)))
 
-  -- the same from a cell and two lists in hand
+  -- the same from a cell and its tuple's regions in hand
   pub part_found :
-      (x : Cell) → x ≡ first → (groups parts : List ℕ) → RegionsOf G d x.tuple.0 groups parts
-      → lists_of (row_triples G (in_hand groups parts) (p * G.g) x) G.g ≡ part_plan G d disk p
-  part_found x is groups parts h =
-      let same = subst (λ (z : Cell). RegionsOf G d z.tuple.0 groups parts) is h in
-      ap (λ (z : Cell). lists_of (row_triples G (in_hand groups parts) (p * G.g) z) G.g) is
-      ∙ part_same (in_hand groups parts) same
+      (x : Cell) → x ≡ first → (regions : List Region) → RegionsOf G d x.tuple.0 regions
+      → lists_of (row_triples G (in_hand regions) (p * G.g) x) G.g ≡ part_plan G d disk p
+  part_found x is regions h =
+      let same = subst (λ (z : Cell). RegionsOf G d z.tuple.0 regions) is h in
+      ap (λ (z : Cell). lists_of (row_triples G (in_hand regions) (p * G.g) z) G.g) is ∙ part_same (in_hand regions) same
 
 -- of the disk
 pub parts_are_the_plan : (G : Geometry) (d : List ℕ) (disk : ℕ) → lists_of (part_plan G d disk) (parts_of G) ≡ plan_of G d disk

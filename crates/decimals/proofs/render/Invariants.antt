@@ -1,12 +1,9 @@
--- `decimals::render` meets its contract. The loop's invariant: the lines before place i stand at the front of `out`, up to `at`.
--- Assumes nothing.
-use Prim.Native.Nat.{◌-◌, ◌≤◌}
-use lib.ListN.{length}
-use Rattle.decimals.proofs.Lines.{Rendered}
+-- `decimals::render`: the lines of the triples so far stand at the front of `out`. Assumes nothing.
+use lib.ListN.{take}
+use Rattle.std.specs.List.{flat_map}
+use Rattle.decimals.proofs.Stores.{Put}
+use Rattle.decimals.proofs.Lines.{line}
 use Rattle.decimals.proofs.render.Given as goal
 
-abbrev pub invariant-loop-i : goal.invariant-loop-i
-invariant-loop-i l = (l.i ≤ length l.list) × Rendered l.list l.i l.initial.out l.at l.out
-
-abbrev pub decreases-loop-i : goal.decreases-loop-i
-decreases-loop-i l = length l.list - l.i
+abbrev pub invariant-loop-x : goal.invariant-loop-x
+invariant-loop-x l = Put l.initial.out (flat_map line (take l.x-index l.triples)) l.at l.out

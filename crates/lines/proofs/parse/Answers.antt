@@ -1,62 +1,20 @@
 -- `lines::parse` meets its contract: v, then g, then disk. Assumes nothing.
-use native.Mathlib.Omega.{arith}
-use Rattle.lines.proofs.Answers.{unread_v, second_inside, unread_g, third_inside, unread_disk, read_all}
+use Rattle.std.proofs.Common.{◌∙◌}
+use Rattle.lines.proofs.Answers.{no_v, unread_g, unread_disk, read_all}
 use Rattle.lines.proofs.parse.Goals as goal
 
-pub number_before_space-v-requires : goal.number_before_space-v-requires
-number_before_space-v-requires c = omega arith
+pub returns-in_err-v : goal.returns-in_err-v
+returns-in_err-v c = c.from_residual.ensures ∙ no_v c.args.line.now c.in_err-v.ensures
 
-pub returns-then-v-eq0 : goal.returns-then-v-eq0
-returns-then-v-eq0 c = unread_v _ _ c.number_before_space-v.ensures c.if-v-eq0.true
+pub returns-in_err-g : goal.returns-in_err-g
+returns-in_err-g c =
+    c.from_residual-in_err-g.ensures ∙ unread_g _ _ _ c.in_ok-v.ensures c.in_err-g.ensures
 
-pub number_before_space-g-requires : goal.number_before_space-g-requires
-number_before_space-g-requires c =
-    second_inside _ _ c.number_before_space-v.ensures c.if-v-eq0.false
-
-pub overflow_add-second : goal.overflow_add-second
-overflow_add-second c = omega (arith, second_inside _ _ c.number_before_space-v.ensures c.if-v-eq0.false)
-
-pub returns-then-g-eq0 : goal.returns-then-g-eq0
-returns-then-g-eq0 c =
-    unread_g _ _ c.number_before_space-v.ensures
-    c.if-v-eq0.false _ c.number_before_space-g.ensures c.if-g-eq0.true
-
-pub number_before_end-disk-requires : goal.number_before_end-disk-requires
-number_before_end-disk-requires c =
-    third_inside _ _ c.number_before_space-v.ensures
-    c.if-v-eq0.false _ c.number_before_space-g.ensures
-    c.if-g-eq0.false
-
-pub overflow_add-third : goal.overflow_add-third
-overflow_add-third c =
-    omega (
-      arith,
-      third_inside _ _ c.number_before_space-v.ensures
-          c.if-v-eq0.false _ c.number_before_space-g.ensures
-          c.if-g-eq0.false,
-    )
-
-pub overflow_add-third-2 : goal.overflow_add-third-2
-overflow_add-third-2 c =
-    omega (
-      arith,
-      third_inside _ _ c.number_before_space-v.ensures
-          c.if-v-eq0.false _ c.number_before_space-g.ensures
-          c.if-g-eq0.false,
-    )
-
-pub returns-then-disk-eq0 : goal.returns-then-disk-eq0
-returns-then-disk-eq0 c =
-    unread_disk _ _
-    c.number_before_space-v.ensures
-    c.if-v-eq0.false _
-    c.number_before_space-g.ensures
-    c.if-g-eq0.false _ c.number_before_end-disk.ensures c.if-disk-eq0.true
+pub returns-in_err-disk : goal.returns-in_err-disk
+returns-in_err-disk c =
+    c.from_residual-in_err-disk.ensures ∙ unread_disk _ _ _ c.in_ok-v.ensures _ _ c.in_ok-g.ensures c.in_err-disk.ensures
 
 pub returns : goal.returns
 returns c =
-    read_all _ _
-    c.number_before_space-v.ensures
-    c.if-v-eq0.false _
-    c.number_before_space-g.ensures
-    c.if-g-eq0.false _ c.number_before_end-disk.ensures c.if-disk-eq0.false
+    c.then_some.ensures
+    ∙ rw c.is_end.ensures (read_all _ _ _ c.in_ok-v.ensures _ _ c.in_ok-g.ensures _ _ c.in_ok-disk.ensures)

@@ -1,6 +1,6 @@
 -- `printing::plan_asked` meets its contract: the list of its own is as long as the held design. Assumes nothing.
 use Prim.Native.Nat.{ℕ, ◌*◌}
-use mathlib.Core.Path.{sym, ap, ◌∙◌}
+use mathlib.Core.Path.{refl, sym, ap, ◌∙◌}
 use native.Mathlib.Omega.{arith}
 use Rattle.printing.proofs.Designs.{design_length, design_room, part_long}
 use Rattle.printing.proofs.plan_asked.Goals as goal
@@ -19,7 +19,7 @@ pub slice_bounds-plan_held-end : goal.slice_bounds-plan_held-end
 slice_bounds-plan_held-end c =
     let v = c.args.q.v in
     sym
-    (part_long _ _ (sym c.design_zeros-numbers.ensures)
+    (part_long _ _ (refl)
     (omega (arith, ap (λ (n : ℕ). v * n) c.set_size-k.ensures, design_room v)))
 
 pub plan_held-requires : goal.plan_held-requires
@@ -27,4 +27,4 @@ plan_held-requires c =
     let size = c.set_size-k.ensures in
     let v = c.args.q.v in
     let e = ap (λ (n : ℕ). v * n) size in
-    (size, part_long _ _ (sym c.design_zeros-numbers.ensures) (omega (arith, e, design_room v)) ∙ e ∙ sym (design_length v), c.requires)
+    (size, part_long _ _ (refl) (omega (arith, e, design_room v)) ∙ e ∙ sym (design_length v), c.requires)
