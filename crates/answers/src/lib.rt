@@ -3,31 +3,24 @@
 #![tactic(auto)]
 
 ghost use Rattle.std.specs.Prelude.{◌≡◌};
-ghost use Rattle.refusal.specs.Refusal.{checked_outcome};
-ghost use Rattle.sizes.specs.Sizes.{sized_outcome};
-ghost use Rattle.address.specs.Address.{mapped_outcome, located_outcome};
-ghost use Rattle.auditing.specs.Auditing.{audited_outcome};
-ghost use Rattle.planning.specs.Plan.{planned_outcome};
-ghost use Rattle.rebuilding.specs.Rebuild.{rebuilt_outcome};
+ghost use Rattle.refusal.specs.Refusal.{outcome_of};
 ghost use Rattle.answers.specs.Flat.{flat_answer, flat_sizes, flat_map, flat_role, flat_role_of, flat_audit, flat_count};
 
-use address::{Located, Mapped};
-use auditing::Audited;
 use cells::Role;
-use planning::Planned;
-use rebuilding::Rebuilt;
-use refusal::Checked;
-use sizes::Sized;
+use finding::Found;
+use layout::Four;
+use refusal::Refusal;
+use sizes::Sizes;
 
 #[repr(C)]
-#[derive(Clone, Copy)]
+#[derive(Clone, Copy, Default)]
 pub struct Answer {
     pub refusal: u32,
     pub place: u32,
 }
 
 #[repr(C)]
-#[derive(Clone, Copy)]
+#[derive(Clone, Copy, Default)]
 pub struct SizesAnswer {
     pub refusal: u32,
     pub place: u32,
@@ -41,7 +34,7 @@ pub struct SizesAnswer {
 }
 
 #[repr(C)]
-#[derive(Clone, Copy)]
+#[derive(Clone, Copy, Default)]
 pub struct MapAnswer {
     pub refusal: u32,
     pub place: u32,
@@ -56,7 +49,7 @@ pub struct MapAnswer {
 }
 
 #[repr(C)]
-#[derive(Clone, Copy)]
+#[derive(Clone, Copy, Default)]
 pub struct RoleAnswer {
     pub refusal: u32,
     pub place: u32,
@@ -67,7 +60,7 @@ pub struct RoleAnswer {
 }
 
 #[repr(C)]
-#[derive(Clone, Copy)]
+#[derive(Clone, Copy, Default)]
 pub struct AuditAnswer {
     pub refusal: u32,
     pub place: u32,
@@ -76,192 +69,158 @@ pub struct AuditAnswer {
 }
 
 #[repr(C)]
-#[derive(Clone, Copy)]
+#[derive(Clone, Copy, Default)]
 pub struct CountAnswer {
     pub refusal: u32,
     pub place: u32,
     pub count: u32,
 }
 
-// Fine or refused: there is nothing else to tell.
-pub fn answer_of(x: Checked) -> Answer
-    ensures { result ≡ flat_answer (checked_outcome x) }
-{
-    match x {
-        Checked::Fine => Answer {
-            refusal: 0,
-            place: 0,
-        },
-        Checked::Refused(why) => Answer {
-            refusal: why.number,
-            place: why.place,
-        },
+// Accepted or refused: there is nothing else to tell.
+impl From<Result<(), Refusal>> for Answer {
+    ghost from_gives = { λ x r. r ≡ flat_answer (outcome_of x) };
+
+    fn from(x: Result<(), Refusal>) -> Answer {
+        match x {
+            Ok(()) => Answer::default(),
+            Err(why) => Answer {
+                refusal: why.number(),
+                place: why.place(),
+            },
+        }
     }
 }
 
 // The sizes of a geometry.
-pub fn sizes_answer(x: Sized) -> SizesAnswer
-    ensures { result ≡ flat_sizes (sized_outcome x) }
-{
-    match x {
-        Sized::Sizes(s) => SizesAnswer {
-            refusal: 0,
-            place: 0,
-            parts: s.parts,
-            tuples: s.tuples,
-            disks: s.disks,
-            units: s.units,
-            user_units: s.users,
-            sets: s.sets,
-            bytes: s.bytes,
-        },
-        Sized::Refused(why) => SizesAnswer {
-            refusal: why.number,
-            place: why.place,
-            parts: 0,
-            tuples: 0,
-            disks: 0,
-            units: 0,
-            user_units: 0,
-            sets: 0,
-            bytes: 0,
-        },
+impl From<Result<Sizes, Refusal>> for SizesAnswer {
+    ghost from_gives = { λ x r. r ≡ flat_sizes (outcome_of x) };
+
+    fn from(x: Result<Sizes, Refusal>) -> SizesAnswer {
+        match x {
+            Ok(s) => SizesAnswer {
+                parts: s.parts,
+                tuples: s.tuples,
+                disks: s.disks,
+                units: s.units,
+                user_units: s.users,
+                sets: s.sets,
+                bytes: s.bytes,
+                ..SizesAnswer::default()
+            },
+            Err(why) => SizesAnswer {
+                refusal: why.number(),
+                place: why.place(),
+                ..SizesAnswer::default()
+            },
+        }
     }
 }
 
 // The four places of a user unit.
-pub fn map_of(x: Mapped) -> MapAnswer
-    ensures { result ≡ flat_map (mapped_outcome x) }
-{
-    match x {
-        Mapped::Places(f) => MapAnswer {
-            refusal: 0,
-            place: 0,
-            data_disk: f.user.disk.0,
-            data_unit: f.user.unit.0,
-            outer_disk: f.outer.disk.0,
-            outer_unit: f.outer.unit.0,
-            inner_disk: f.inner.disk.0,
-            inner_unit: f.inner.unit.0,
-            both_disk: f.both.disk.0,
-            both_unit: f.both.unit.0,
-        },
-        Mapped::Refused(why) => MapAnswer {
-            refusal: why.number,
-            place: why.place,
-            data_disk: 0,
-            data_unit: 0,
-            outer_disk: 0,
-            outer_unit: 0,
-            inner_disk: 0,
-            inner_unit: 0,
-            both_disk: 0,
-            both_unit: 0,
-        },
+impl From<Result<Four, Refusal>> for MapAnswer {
+    ghost from_gives = { λ x r. r ≡ flat_map (outcome_of x) };
+
+    fn from(x: Result<Four, Refusal>) -> MapAnswer {
+        match x {
+            Ok(f) => MapAnswer {
+                data_disk: f.user.disk.0,
+                data_unit: f.user.unit.0,
+                outer_disk: f.outer.disk.0,
+                outer_unit: f.outer.unit.0,
+                inner_disk: f.inner.disk.0,
+                inner_unit: f.inner.unit.0,
+                both_disk: f.both.disk.0,
+                both_unit: f.both.unit.0,
+                ..MapAnswer::default()
+            },
+            Err(why) => MapAnswer {
+                refusal: why.number(),
+                place: why.place(),
+                ..MapAnswer::default()
+            },
+        }
     }
 }
 
 // What a unit is for: kind 0, 1 or 2 and its numbers.
-fn role_of(x: Role) -> RoleAnswer
-    ensures { result ≡ flat_role_of x }
-{
-    match x {
-        Role::User(n) => RoleAnswer {
-            refusal: 0,
-            place: 0,
-            kind: 0,
-            a: n.0,
-            b: 0,
-            c: 0,
-        },
-        Role::Outer(t, i, c) => RoleAnswer {
-            refusal: 0,
-            place: 0,
-            kind: 1,
-            a: t.0,
-            b: i,
-            c,
-        },
-        Role::Inner(t, l, j) => RoleAnswer {
-            refusal: 0,
-            place: 0,
-            kind: 2,
-            a: t.0,
-            b: l,
-            c: j,
-        },
+impl From<Role> for RoleAnswer {
+    ghost from_gives = { λ x r. r ≡ flat_role_of x };
+
+    fn from(x: Role) -> RoleAnswer {
+        match x {
+            Role::User(n) => RoleAnswer {
+                a: n.0,
+                ..RoleAnswer::default()
+            },
+            Role::Outer(t, i, c) => RoleAnswer {
+                kind: 1,
+                a: t.0,
+                b: i,
+                c,
+                ..RoleAnswer::default()
+            },
+            Role::Inner(t, l, j) => RoleAnswer {
+                kind: 2,
+                a: t.0,
+                b: l,
+                c: j,
+                ..RoleAnswer::default()
+            },
+        }
     }
 }
 
 // The role of a disk's unit.
-pub fn located_of(x: Located) -> RoleAnswer
-    ensures { result ≡ flat_role (located_outcome x) }
-{
-    match x {
-        Located::Has(role) => role_of(role),
-        Located::Refused(why) => RoleAnswer {
-            refusal: why.number,
-            place: why.place,
-            kind: 0,
-            a: 0,
-            b: 0,
-            c: 0,
-        },
+impl From<Result<Role, Refusal>> for RoleAnswer {
+    ghost from_gives = { λ x r. r ≡ flat_role (outcome_of x) };
+
+    fn from(x: Result<Role, Refusal>) -> RoleAnswer {
+        match x {
+            Ok(role) => role.into(),
+            Err(why) => RoleAnswer {
+                refusal: why.number(),
+                place: why.place(),
+                ..RoleAnswer::default()
+            },
+        }
     }
 }
 
 // How many sets are bad, and the lowest of them.
-pub fn audit_of(x: Audited) -> AuditAnswer
-    ensures { result ≡ flat_audit (audited_outcome x) }
-{
-    match x {
-        Audited::Found(f) => AuditAnswer {
-            refusal: 0,
-            place: 0,
-            bad: f.bad,
-            lowest: f.lowest,
-        },
-        Audited::Refused(why) => AuditAnswer {
-            refusal: why.number,
-            place: why.place,
-            bad: 0,
-            lowest: 0,
-        },
+impl From<Result<Found, Refusal>> for AuditAnswer {
+    ghost from_gives = { λ x r. r ≡ flat_audit (outcome_of x) };
+
+    fn from(x: Result<Found, Refusal>) -> AuditAnswer {
+        match x {
+            Ok(f) => AuditAnswer {
+                bad: f.bad,
+                lowest: f.lowest,
+                ..AuditAnswer::default()
+            },
+            Err(why) => AuditAnswer {
+                refusal: why.number(),
+                place: why.place(),
+                ..AuditAnswer::default()
+            },
+        }
     }
 }
 
-// How many triples a plan has.
-pub fn planned_of(x: Planned) -> CountAnswer
-    ensures { result ≡ flat_count (planned_outcome x) }
-{
-    match x {
-        Planned::Triples(n) => CountAnswer {
-            refusal: 0,
-            place: 0,
-            count: n,
-        },
-        Planned::Refused(why) => CountAnswer {
-            refusal: why.number,
-            place: why.place,
-            count: 0,
-        },
-    }
-}
+// How many there are: triples of a plan, units restored.
+impl From<Result<u32, Refusal>> for CountAnswer {
+    ghost from_gives = { λ x r. r ≡ flat_count (outcome_of x) };
 
-// How many units were restored.
-pub fn rebuilt_of(x: Rebuilt) -> CountAnswer
-    ensures { result ≡ flat_count (rebuilt_outcome x) }
-{
-    match x {
-        Rebuilt::Restored(units) => CountAnswer {
-            refusal: 0,
-            place: 0,
-            count: units,
-        },
-        Rebuilt::Refused(why) => CountAnswer {
-            refusal: why.number,
-            place: why.place,
-            count: 0,
-        },
+    fn from(x: Result<u32, Refusal>) -> CountAnswer {
+        match x {
+            Ok(count) => CountAnswer {
+                count,
+                ..CountAnswer::default()
+            },
+            Err(why) => CountAnswer {
+                refusal: why.number(),
+                place: why.place(),
+                ..CountAnswer::default()
+            },
+        }
     }
 }

@@ -4,25 +4,19 @@
 -- refusals apply to which call. A list that is not changed stands as one reference before and after. Assumes nothing.
 use Rattle.std.specs.Prelude.{ℕ, [], ◌∷◌, length}
 use contract.Lifetimes.{Lfts}
-use Rattle.refusal.specs.Refusal.{checked_outcome}
 use Rattle.geometry.specs.declared.Geometry.{Geometry}
 use Rattle.geometry.specs.declared.Disk.{Disk}
 use Rattle.geometry.specs.declared.Unit.{Unit as UnitNumber}
 use Rattle.geometry.specs.declared.UserUnit.{UserUnit}
 use Rattle.checking.specs.Reasons.{design_rows}
 use Rattle.held.specs.Reasons.{fill_rows}
-use Rattle.sizes.specs.Sizes.{sized_outcome}
 use Rattle.sizes.specs.Reasons.{sizes_rows}
-use Rattle.address.specs.Address.{mapped_outcome, located_outcome}
 use Rattle.address.specs.Reasons.{map_rows, role_rows}
 use Rattle.array.specs.Reasons.{array_rows}
 use Rattle.reading.specs.Reasons.{read_rows}
 use Rattle.writing.specs.Reasons.{write_rows}
-use Rattle.auditing.specs.Auditing.{audited_outcome}
 use Rattle.auditing.specs.Reasons.{audit_rows}
-use Rattle.rebuilding.specs.Rebuild.{rebuilt_outcome}
 use Rattle.rebuilding.specs.Reasons.{rebuild_rows}
-use Rattle.planning.specs.Plan.{planned_outcome}
 use Rattle.planning.specs.Reasons.{plan_rows}
 use Rattle.lostset.specs.declared.LostSet.{LostSet}
 use Rattle.held.proofs.fill.Reads as fill
@@ -57,56 +51,57 @@ use Rattle.host.proofs.himzolven_rebuild.Reads as c-rebuild
 use Rattle.host.proofs.himzolven_plan.Reads as c-plan
 use Rattle.calls.specs.Refuses.{Lent, LentMut, nothing, both, always, Refuses}
 use Rattle.calls.specs.Heard.{heard_answer, heard_sizes, heard_map, heard_role, heard_audit, heard_count}
+use Rattle.refusal.specs.Refusal.{outcome_of}
 
 -- the calls in Rattle
 pub record EveryCall : Type 0 where
   pub fill :
       (κs : Lfts 1) (v : ℕ) (design : LentMut) →
       Refuses (fill.Pre κs (v, (design, tt)))
-      (1 ∷ 3 ∷ []) (fill_rows v (length design.now)) checked_outcome (λ x. x.now) design
+      (1 ∷ 3 ∷ []) (fill_rows v (length design.now)) outcome_of (λ x. x.now) design
       (λ r l. fill.Post κs (v, (design, tt)) r (v, (l, tt)))
   pub check :
       (κs : Lfts 1) (v k : ℕ) (design : Lent) →
       Refuses (check.Pre κs (v, (k, (design, tt))))
-      (2 ∷ 3 ∷ 4 ∷ 5 ∷ []) (design_rows v k design.now) checked_outcome nothing tt
+      (2 ∷ 3 ∷ 4 ∷ 5 ∷ []) (design_rows v k design.now) outcome_of nothing tt
       (λ r l. check.Post κs (v, (k, (design, tt))) r (v, (k, (design, tt))))
   pub check_sizes :
       (κs : Lfts 1) (G : Geometry) (design : Lent) →
       Refuses (check_sizes.Pre κs (G, (design, tt)))
-      (2 ∷ 3 ∷ 4 ∷ 5 ∷ 6 ∷ []) (sizes_rows G design.now) checked_outcome nothing tt
+      (2 ∷ 3 ∷ 4 ∷ 5 ∷ 6 ∷ []) (sizes_rows G design.now) outcome_of nothing tt
       (λ r l. check_sizes.Post κs (G, (design, tt)) r (G, (design, tt)))
   pub sizes_of :
       (κs : Lfts 1) (G : Geometry) (design : Lent) →
       Refuses (sizes_of.Pre κs (G, (design, tt)))
-      (2 ∷ 3 ∷ 4 ∷ 5 ∷ 6 ∷ []) (sizes_rows G design.now) sized_outcome nothing tt
+      (2 ∷ 3 ∷ 4 ∷ 5 ∷ 6 ∷ []) (sizes_rows G design.now) outcome_of nothing tt
       (λ r l. sizes_of.Post κs (G, (design, tt)) r (G, (design, tt)))
   pub map :
       (κs : Lfts 1) (G : Geometry) (design : Lent) (n : UserUnit) →
       Refuses (map.Pre κs (G, (design, (n, tt))))
-      (2 ∷ 3 ∷ 4 ∷ 5 ∷ 6 ∷ 10 ∷ []) (map_rows G design.now n.0) mapped_outcome nothing tt
+      (2 ∷ 3 ∷ 4 ∷ 5 ∷ 6 ∷ 10 ∷ []) (map_rows G design.now n.0) outcome_of nothing tt
       (λ r l. map.Post κs (G, (design, (n, tt))) r (G, (design, (n, tt))))
   pub role :
       (κs : Lfts 1) (G : Geometry) (design : Lent) (disk : Disk) (unit : UnitNumber) →
       Refuses (role.Pre κs (G, (design, (disk, (unit, tt)))))
-      (2 ∷ 3 ∷ 4 ∷ 5 ∷ 6 ∷ 9 ∷ []) (role_rows G design.now disk.0 unit.0) located_outcome nothing tt
+      (2 ∷ 3 ∷ 4 ∷ 5 ∷ 6 ∷ 9 ∷ []) (role_rows G design.now disk.0 unit.0) outcome_of nothing tt
       (λ r l. role.Post κs (G, (design, (disk, (unit, tt)))) r (G, (design, (disk, (unit, tt)))))
   pub check_array :
       (κs : Lfts 2) (G : Geometry) (design : Lent) (bytes : ℕ) (marks : Lent) →
       Refuses (check_array.Pre κs (G, (design, (bytes, (marks, tt)))))
-      (2 ∷ 3 ∷ 4 ∷ 5 ∷ 6 ∷ 7 ∷ 8 ∷ []) (array_rows G design.now bytes marks.now) checked_outcome nothing tt
+      (2 ∷ 3 ∷ 4 ∷ 5 ∷ 6 ∷ 7 ∷ 8 ∷ []) (array_rows G design.now bytes marks.now) outcome_of nothing tt
       (λ r l. check_array.Post κs (G, (design, (bytes, (marks, tt)))) r (G, (design, (bytes, (marks, tt)))))
   pub format :
       (κs : Lfts 3) (G : Geometry) (design : Lent) (array marks : LentMut) →
       Refuses (format.Pre κs (G, (design, (array, (marks, tt)))))
       (2 ∷ 3 ∷ 4 ∷ 5 ∷ 6 ∷ 7 ∷ 8 ∷ []) (array_rows G design.now (length array.now) marks.now)
-      checked_outcome both (array, marks)
+      outcome_of both (array, marks)
       (λ r l. format.Post κs (G, (design, (array, (marks, tt)))) r (G, (design, (l.0, (l.1, tt)))))
   pub read :
       (κs : Lfts 4) (G : Geometry) (design array marks : Lent) (n : UserUnit) (offset : ℕ) (out : LentMut) →
       Refuses (read.Pre κs (G, (design, (array, (marks, (n, (offset, (out, tt))))))))
       (2 ∷ 3 ∷ 4 ∷ 5 ∷ 6 ∷ 7 ∷ 8 ∷ 10 ∷ 11 ∷ 12 ∷ [])
       (read_rows G design.now (length array.now) marks.now n.0 offset (length out.now))
-      checked_outcome (λ x. x.now) out
+      outcome_of (λ x. x.now) out
       (λ r l. read.Post κs (G, (design, (array, (marks, (n, (offset, (out, tt))))))) r
       (G, (design, (array, (marks, (n, (offset, (l, tt))))))))
   pub write :
@@ -114,24 +109,24 @@ pub record EveryCall : Type 0 where
       Refuses (write.Pre κs (G, (design, (array, (marks, (n, (offset, (new, tt))))))))
       (2 ∷ 3 ∷ 4 ∷ 5 ∷ 6 ∷ 7 ∷ 8 ∷ 10 ∷ 11 ∷ 12 ∷ [])
       (write_rows G design.now (length array.now) marks.now n.0 offset (length new.now))
-      checked_outcome (λ x. x.now) array
+      outcome_of (λ x. x.now) array
       (λ r l. write.Post κs (G, (design, (array, (marks, (n, (offset, (new, tt))))))) r
       (G, (design, (l, (marks, (n, (offset, (new, tt))))))))
   pub audit :
       (κs : Lfts 2) (G : Geometry) (design array : Lent) →
       Refuses (audit.Pre κs (G, (design, (array, tt))))
-      (2 ∷ 3 ∷ 4 ∷ 5 ∷ 6 ∷ 7 ∷ []) (audit_rows G design.now (length array.now)) audited_outcome nothing tt
+      (2 ∷ 3 ∷ 4 ∷ 5 ∷ 6 ∷ 7 ∷ []) (audit_rows G design.now (length array.now)) outcome_of nothing tt
       (λ r l. audit.Post κs (G, (design, (array, tt))) r (G, (design, (array, tt))))
   pub rebuild :
       (κs : Lfts 3) (G : Geometry) (design : Lent) (array marks : LentMut) →
       Refuses (rebuild.Pre κs (G, (design, (array, (marks, tt)))))
       (2 ∷ 3 ∷ 4 ∷ 5 ∷ 6 ∷ 7 ∷ 8 ∷ 13 ∷ []) (rebuild_rows G design.now (length array.now) marks.now)
-      rebuilt_outcome both (array, marks)
+      outcome_of both (array, marks)
       (λ r l. rebuild.Post κs (G, (design, (array, (marks, tt)))) r (G, (design, (l.0, (l.1, tt)))))
   pub plan :
       (κs : Lfts 2) (G : Geometry) (design : Lent) (disk : Disk) (list : LentMut) →
       Refuses (plan.Pre κs (G, (design, (disk, (list, tt)))))
-      (2 ∷ 3 ∷ 4 ∷ 5 ∷ 6 ∷ 9 ∷ 14 ∷ []) (plan_rows G design.now disk.0 (length list.now)) planned_outcome (λ x. x.now) list
+      (2 ∷ 3 ∷ 4 ∷ 5 ∷ 6 ∷ 9 ∷ 14 ∷ []) (plan_rows G design.now disk.0 (length list.now)) outcome_of (λ x. x.now) list
       (λ r l. plan.Post κs (G, (design, (disk, (list, tt)))) r (G, (design, (disk, (l, tt)))))
   pub none :
       (κs : Lfts 0) →

@@ -16,10 +16,10 @@ use Rattle.cells.specs.Roles.{outer, inner}
 use Rattle.layout.specs.declared.Place.{Place}
 use Rattle.layout.specs.declared.Four.{Four}
 use Rattle.layout.specs.Places.{place}
-use Rattle.address.specs.declared.Located.{Located}
-use Rattle.address.specs.declared.Located.TheVariants.{Has}
 use Rattle.address.proofs.role.Reads as role
 use Rattle.calls.specs.Refuses.{Lent}
+use Rattle.std.specs.Prelude.{Result, Ok}
+use Rattle.refusal.specs.declared.Refusal.{Refusal}
 
 -- "n = ((t·(k-1) + l)·(g-1) + i)·g + c" [for 1 ≤ k and 1 ≤ g]
 abbrev pub unit_of : Geometry → (t l i c : ℕ) → UserUnit
@@ -75,7 +75,7 @@ PublishedRole G d p (Inner t l j) = InnerIn G t.0 l j × (p ≡ inner_place G d 
 -- at this place the call `role` answers this role, and nothing else
 abbrev pub Answers : Lfts 1 → Geometry → Lent → Place → Role → Type 0
 Answers κs G design p ρ =
-    (r : Located) → role.Post κs (G, (design, (p.disk, (p.unit, tt)))) r (G, (design, (p.disk, (p.unit, tt)))) → r ≡ Has ρ
+    (r : Result Role Refusal) → role.Post κs (G, (design, (p.disk, (p.unit, tt)))) r (G, (design, (p.disk, (p.unit, tt)))) → r ≡ Ok ρ
 
 -- the inner parity of the diagonal on which label (i,c) lies in the region at position l, by the way back
 abbrev pub AnswersInner : Lfts 1 → Geometry → Lent → (t l i c : ℕ) → Place → Type 0

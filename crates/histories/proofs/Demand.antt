@@ -6,7 +6,6 @@ use native.Mathlib.Nat.{add_assoc}
 use native.Mathlib.Omega.{arith}
 use lib.ListN.{get_or, length, replicate}
 use denote.Ref.{MutBor, at_last}
-use Rattle.refusal.specs.declared.Checked.TheVariants.{Fine}
 use Rattle.refusal.specs.Refusal.{accepted, verdict}
 use Rattle.geometry.specs.declared.Geometry.{Geometry}
 use Rattle.geometry.specs.declared.UserUnit.{UserUnit}
@@ -17,8 +16,6 @@ use Rattle.array.specs.Array.{cell_start}
 use Rattle.reading.specs.Reading.{read_of, read_rules}
 use Rattle.reading.proofs.TwoResults.{read_accepted}
 use Rattle.fourfold.proofs.Starts.{user_in, range_in}
-use Rattle.rebuilding.specs.declared.Rebuilt.{Rebuilt}
-use Rattle.rebuilding.specs.declared.Rebuilt.TheVariants as Rebuild
 use Rattle.rebuilding.proofs.TwoResults.{some_result}
 use Rattle.histories.specs.Histories.{State, Event, rebuilt, marked_disks, ReadStep, Step, History, start, more}
 use Rattle.histories.specs.Ideal.{last_written}
@@ -28,13 +25,15 @@ use Rattle.histories.proofs.Refused.{state, refused_stays}
 use Rattle.histories.proofs.Written.{Through, read_through, range_of_ideal, same_read}
 use Rattle.histories.proofs.Rebuilds.{rebuild_leaves, rebuild_answers}
 use Rattle.histories.proofs.Kept.{sizes_passed, every_history_keeps_its_ideal}
+use Rattle.std.specs.Prelude.{Result, Ok}
+use Rattle.refusal.specs.declared.Refusal.{Refusal}
 
 pub a_history_without_its_newest_event_is_one : AHistoryWithoutItsNewestEventIsOne
 a_history_without_its_newest_event_is_one G d e f es _ (more _ s h _ t p) = (s, h, p)
 
 -- ---- an accepted read
 module _ (G : Geometry) (d : List ℕ) (es : List Event) (t : State) (k : Keeps G d es t)
-    (n : UserUnit) (o : ℕ) (bytes : List ℕ) (w : State) (r : ReadStep G d t n o bytes Fine w) where
+    (n : UserUnit) (o : ℕ) (bytes : List ℕ) (w : State) (r : ReadStep G d t n o bytes (Ok tt) w) where
   read_fine : verdict (read_rules G d (length t.array) t.marks n.0 o (length r.out.now)) ≡ accepted tt
   read_fine = rw (r.is_design, r.is_array, r.are_marks) at (sym r.meets.0)
 
@@ -69,7 +68,7 @@ module _ (G : Geometry) (d : List ℕ) (es : List Event) (t : State) (k : Keeps 
 -- ---- a rebuild
 module _ (G : Geometry) (d : List ℕ) where
   -- the references of the first format serve
-  pub can_rebuild : (es : List Event) (s t : State) → History G d es s → (r : Rebuilt) × (w : State) × Step G d t (rebuilt r) w
+  pub can_rebuild : (es : List Event) (s t : State) → History G d es s → (r : Result ℕ Refusal) × (w : State) × Step G d t (rebuilt r) w
   can_rebuild _ _ t (start s u f) =
       let a : MutBor (List ℕ) = at_last f.array t.array in
       let m : MutBor (List ℕ) = at_last f.marks t.marks in
@@ -95,14 +94,14 @@ module _ (G : Geometry) (d : List ℕ) where
 
   module _ (es : List Event) (t : State) (h : History G d es t) (k : Keeps G d es t) where
     restored :
-        (c : ℕ) (r : Rebuilt) (w : State) → r ≡ Rebuild.Restored c → Step G d t (rebuilt r) w →
+        (c : ℕ) (r : Result ℕ Refusal) (w : State) → r ≡ Ok c → Step G d t (rebuilt r) w →
         w ≡ state k.ideal (replicate (disks_of G) 0)
     restored c r w e b =
-        rebuild_leaves G d es t w k c (subst (λ (x : Rebuilt). Step G d t (rebuilt x) w) e b)
+        rebuild_leaves G d es t w k c (subst (λ (x : Result ℕ Refusal). Step G d t (rebuilt x) w) e b)
 
     rebuilds :
-        (r : Rebuilt) (w : State) → Step G d t (rebuilt r) w →
-        (r ≡ Rebuild.Restored (marked_disks G t.marks * units_of G))
+        (r : Result ℕ Refusal) (w : State) → Step G d t (rebuilt r) w →
+        (r ≡ Ok (marked_disks G t.marks * units_of G))
         × (w.array ≡ k.ideal) × (w.marks ≡ replicate (disks_of G) 0)
     rebuilds r w b =
         let z = sizes_passed G d es t h in

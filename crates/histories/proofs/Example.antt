@@ -3,9 +3,6 @@ use Prim.Native.Nat.{ℕ}
 use mathlib.Core.Path.{◌≡◌, refl, sym, subst}
 use mathlib.Core.List.{List, [], ◌∷◌, ◌++◌}
 use lib.ListN.{take, drop, replicate}
-use Rattle.refusal.specs.declared.Checked.TheVariants.{Fine}
-use Rattle.auditing.specs.declared.Audited.TheVariants.{Found}
-use Rattle.rebuilding.specs.declared.Rebuilt.TheVariants.{Restored}
 use Rattle.counting.specs.Counting.{count_below, lowest}
 use Rattle.counting.specs.Lists.{list_of}
 use Rattle.leaves.specs.Bytes.{xors, run, add_at, add_all, sum_at, sums, zero_below}
@@ -34,13 +31,14 @@ use Rattle.restoring.specs.Restore.{stored, restored_in}
 use Rattle.replaying.specs.Replay.{side_starts, step_bytes, replayed}
 use Rattle.rebuilding.specs.Rebuild.{rebuilt_below, rebuilt_of, restored_below, restored_of, rebuild_rules}
 use Rattle.histories.specs.Histories.{State, FormatStep, ReadStep, WriteStep, AuditStep, RebuildStep, Loss, History, start, more}
-use Rattle.histories.specs.Example.{pairs, rows, unit, refusal, events, left}
+use Rattle.histories.specs.Example.{pairs, rows, unit, range_refused, mark_refused, events, left}
 use Rattle.histories.specs.Ideal.{Ideal}
 use Rattle.histories.specs.Theorems.{Keeps, AHistoryByNumbers}
 use Rattle.histories.proofs.Kept.{every_history_keeps_its_ideal}
 use Rattle.histories.proofs.Made.{nothing_marked}
 use Rattle.histories.proofs.Refused.{state}
 use Rattle.histories.proofs.Steps.{format_step, write_step, read_step, audit_step, rebuild_step, loss_step}
+use Rattle.std.specs.Prelude.{Ok}
 
 -- ---- the states, in their order
 abbrev none : List ℕ
@@ -91,57 +89,57 @@ three =
     (0 ∷ 1 ∷ 0 ∷ 0 ∷ 1 ∷ 0 ∷ 0 ∷ 0 ∷ 1 ∷ [])
 
 -- ---- the steps
-formats : FormatStep pairs rows any Fine zeros
+formats : FormatStep pairs rows any (Ok tt) zeros
 unfolding count_below lowest beyond_limits r_of b_of whole no_divisor_below sizes_allowed disks_of parts_of units_of tuples_of user_units_of bytes_of group_at names row_bad rows_with pair_bad design_rules sizes_rules array_fits mark_high array_rules formatted_array formatted_marks
-formats = format_step pairs rows any zeros Fine refl refl refl
+formats = format_step pairs rows any zeros (Ok tt) refl refl refl
 
-writes : WriteStep pairs rows zeros (unit 0) 1 (5 ∷ []) Fine first
+writes : WriteStep pairs rows zeros (unit 0) 1 (5 ∷ []) (Ok tt) first
 unfolding count_below lowest beyond_limits r_of b_of whole no_divisor_below sizes_allowed disks_of parts_of units_of tuples_of user_units_of bytes_of group_at names row_bad rows_with pair_bad design_rules sizes_rules array_fits mark_high array_rules label_column label_at diagonal_column diagonal_at parity_position data_position user_column user_row user_region user_tuple user_cell user_outer inner_of lost place_of four_of part_of start_of cell_start xors run add_at add_all read_of write_cells difference_of write_of four_lost first_lost write_rules
-writes = write_step pairs rows zeros first (unit 0) 1 (5 ∷ []) Fine refl refl refl
+writes = write_step pairs rows zeros first (unit 0) 1 (5 ∷ []) (Ok tt) refl refl refl
 
 loses : Loss pairs first gone
 unfolding count_below lowest r_of disks_of units_of bytes_of
 loses = loss_step pairs rows first gone refl refl refl refl refl
 
-refused_write : WriteStep pairs rows gone (unit 0) 0 (1 ∷ []) (refusal 12 0) gone
+refused_write : WriteStep pairs rows gone (unit 0) 0 (1 ∷ []) mark_refused gone
 unfolding count_below lowest beyond_limits r_of b_of whole no_divisor_below sizes_allowed disks_of parts_of units_of tuples_of user_units_of bytes_of group_at names row_bad rows_with pair_bad design_rules sizes_rules array_fits mark_high array_rules label_column label_at diagonal_column diagonal_at parity_position data_position user_column user_row user_region user_tuple user_cell user_outer inner_of lost place_of four_of part_of start_of cell_start xors run add_at add_all read_of write_cells difference_of write_of four_lost first_lost write_rules
-refused_write = write_step pairs rows gone gone (unit 0) 0 (1 ∷ []) (refusal 12 0) refl refl refl
+refused_write = write_step pairs rows gone gone (unit 0) 0 (1 ∷ []) mark_refused refl refl refl
 
-writes_beside : WriteStep pairs rows gone (unit 13) 0 (200 ∷ 7 ∷ []) Fine second
+writes_beside : WriteStep pairs rows gone (unit 13) 0 (200 ∷ 7 ∷ []) (Ok tt) second
 unfolding count_below lowest beyond_limits r_of b_of whole no_divisor_below sizes_allowed disks_of parts_of units_of tuples_of user_units_of bytes_of group_at names row_bad rows_with pair_bad design_rules sizes_rules array_fits mark_high array_rules label_column label_at diagonal_column diagonal_at parity_position data_position user_column user_row user_region user_tuple user_cell user_outer inner_of lost place_of four_of part_of start_of cell_start xors run add_at add_all read_of write_cells difference_of write_of four_lost first_lost write_rules
-writes_beside = write_step pairs rows gone second (unit 13) 0 (200 ∷ 7 ∷ []) Fine refl refl refl
+writes_beside = write_step pairs rows gone second (unit 13) 0 (200 ∷ 7 ∷ []) (Ok tt) refl refl refl
 
-refused_read : ReadStep pairs rows second (unit 0) 0 (8 ∷ 8 ∷ []) (refusal 12 0) second
+refused_read : ReadStep pairs rows second (unit 0) 0 (8 ∷ 8 ∷ []) mark_refused second
 unfolding count_below lowest beyond_limits r_of b_of whole no_divisor_below sizes_allowed disks_of parts_of units_of tuples_of user_units_of bytes_of group_at names row_bad rows_with pair_bad design_rules sizes_rules array_fits mark_high array_rules label_column label_at diagonal_column diagonal_at parity_position data_position user_column user_row user_region user_tuple user_cell user_outer inner_of lost place_of four_of part_of start_of cell_start run read_of read_rules
-refused_read = read_step pairs rows second second (unit 0) 0 (8 ∷ 8 ∷ []) (refusal 12 0) (8 ∷ 8 ∷ []) refl refl
+refused_read = read_step pairs rows second second (unit 0) 0 (8 ∷ 8 ∷ []) mark_refused (8 ∷ 8 ∷ []) refl refl
 
 hits_again : Loss pairs second hit
 unfolding count_below lowest r_of disks_of units_of bytes_of
 hits_again = loss_step pairs rows second hit refl refl refl refl refl
 
-rebuilds : RebuildStep pairs rows hit (Restored 18) good
+rebuilds : RebuildStep pairs rows hit (Ok 18) good
 unfolding count_below lowest beyond_limits r_of b_of whole no_divisor_below sizes_allowed disks_of parts_of units_of tuples_of user_units_of bytes_of group_at names row_bad rows_with pair_bad design_rules sizes_rules array_fits mark_high array_rules label_column label_at diagonal_column diagonal_at parity_position data_position user_column user_row user_region user_tuple user_cell user_outer inner_of lost place_of four_of part_of start_of cell_start formatted_marks list_of sum_at sums lacks_only restored present_after tried visit sweep passes peeled tuple_cells_of number_of cell_numbered outer_side inner_side sides_of here_of steps_of incomplete stored restored_in side_starts step_bytes replayed rebuilt_below rebuilt_of restored_below restored_of rebuild_rules
-rebuilds = rebuild_step pairs rows hit good (Restored 18) refl refl refl
+rebuilds = rebuild_step pairs rows hit good (Ok 18) refl refl refl
 
-reads : ReadStep pairs rows good (unit 0) 0 (0 ∷ 5 ∷ []) Fine good
+reads : ReadStep pairs rows good (unit 0) 0 (0 ∷ 5 ∷ []) (Ok tt) good
 unfolding count_below lowest beyond_limits r_of b_of whole no_divisor_below sizes_allowed disks_of parts_of units_of tuples_of user_units_of bytes_of group_at names row_bad rows_with pair_bad design_rules sizes_rules array_fits mark_high array_rules label_column label_at diagonal_column diagonal_at parity_position data_position user_column user_row user_region user_tuple user_cell user_outer inner_of lost place_of four_of part_of start_of cell_start run read_of read_rules
-reads = read_step pairs rows good good (unit 0) 0 (0 ∷ 5 ∷ []) Fine (8 ∷ 8 ∷ []) refl refl
+reads = read_step pairs rows good good (unit 0) 0 (0 ∷ 5 ∷ []) (Ok tt) (8 ∷ 8 ∷ []) refl refl
 
 loses_others : Loss pairs good three
 unfolding count_below lowest r_of disks_of units_of bytes_of
 loses_others = loss_step pairs rows good three refl refl refl refl refl
 
-refused_range : WriteStep pairs rows three (unit 17) 1 (1 ∷ 2 ∷ []) (refusal 11 0) three
+refused_range : WriteStep pairs rows three (unit 17) 1 (1 ∷ 2 ∷ []) range_refused three
 unfolding count_below lowest beyond_limits r_of b_of whole no_divisor_below sizes_allowed disks_of parts_of units_of tuples_of user_units_of bytes_of group_at names row_bad rows_with pair_bad design_rules sizes_rules array_fits mark_high array_rules label_column label_at diagonal_column diagonal_at parity_position data_position user_column user_row user_region user_tuple user_cell user_outer inner_of lost place_of four_of part_of start_of cell_start xors run add_at add_all read_of write_cells difference_of write_of four_lost first_lost write_rules
-refused_range = write_step pairs rows three three (unit 17) 1 (1 ∷ 2 ∷ []) (refusal 11 0) refl refl refl
+refused_range = write_step pairs rows three three (unit 17) 1 (1 ∷ 2 ∷ []) range_refused refl refl refl
 
-rebuilds_again : RebuildStep pairs rows three (Restored 18) good
+rebuilds_again : RebuildStep pairs rows three (Ok 18) good
 unfolding count_below lowest beyond_limits r_of b_of whole no_divisor_below sizes_allowed disks_of parts_of units_of tuples_of user_units_of bytes_of group_at names row_bad rows_with pair_bad design_rules sizes_rules array_fits mark_high array_rules label_column label_at diagonal_column diagonal_at parity_position data_position user_column user_row user_region user_tuple user_cell user_outer inner_of lost place_of four_of part_of start_of cell_start formatted_marks list_of sum_at sums lacks_only restored present_after tried visit sweep passes peeled tuple_cells_of number_of cell_numbered outer_side inner_side sides_of here_of steps_of incomplete stored restored_in side_starts step_bytes replayed rebuilt_below rebuilt_of restored_below restored_of rebuild_rules
-rebuilds_again = rebuild_step pairs rows three good (Restored 18) refl refl refl
+rebuilds_again = rebuild_step pairs rows three good (Ok 18) refl refl refl
 
-audits : AuditStep pairs rows good (Found (record { bad = 0; lowest = 0 })) good
+audits : AuditStep pairs rows good (Ok (record { bad = 0; lowest = 0 })) good
 unfolding count_below lowest beyond_limits r_of b_of whole no_divisor_below sizes_allowed disks_of parts_of units_of tuples_of user_units_of bytes_of group_at names row_bad rows_with pair_bad design_rules sizes_rules array_fits mark_high array_rules label_column label_at diagonal_column diagonal_at parity_position data_position user_column user_row user_region user_tuple user_cell user_outer inner_of lost place_of four_of part_of start_of cell_start list_of sum_at zero_below tuple_sets_of sets_of outer_starts inner_starts tuple_set_starts set_starts set_zero bad_below lowest_bad found_below audit_of audit_rules
-audits = audit_step pairs rows good good (Found (record { bad = 0; lowest = 0 })) refl
+audits = audit_step pairs rows good good (Ok (record { bad = 0; lowest = 0 })) refl
 
 by_numbers : History pairs rows events good
 by_numbers =

@@ -3,7 +3,6 @@ use Prim.Native.Nat.{ℕ, ◌≤◌}
 use mathlib.Core.Path.{◌≡◌, refl, sym, subst}
 use mathlib.Core.List.{List, [], ◌∷◌}
 use lib.ListN.{length}
-use Rattle.refusal.specs.declared.Checked.TheVariants.{Fine, Refused}
 use Rattle.refusal.specs.Refusal.{accepted, verdict}
 use Rattle.refusal.proofs.Answer.{accepted_append}
 use Rattle.geometry.specs.declared.Geometry.{Geometry}
@@ -11,7 +10,6 @@ use Rattle.geometry.specs.Geometry.{bytes_of}
 use Rattle.sizes.specs.Sizes.{sizes_rules}
 use Rattle.array.specs.Rules.{array_rules}
 use Rattle.array.proofs.Fits.{ready}
-use Rattle.rebuilding.specs.declared.Rebuilt.TheVariants as Rebuild
 use Rattle.histories.specs.Histories.{State, Event, formatted, was_read, written, audited, rebuilt, asked, lost, Step}
 use Rattle.histories.specs.Histories.{History, start, more}
 use Rattle.histories.specs.Ideal.{last_written}
@@ -21,6 +19,7 @@ use Rattle.histories.proofs.Start.{format_fine, keeps_format}
 use Rattle.histories.proofs.Written.{keeps_write}
 use Rattle.histories.proofs.Losses.{keeps_on, keeps_loss}
 use Rattle.histories.proofs.Rebuilds.{keeps_rebuild}
+use Rattle.std.specs.Prelude.{Ok, Err}
 
 module _ (G : Geometry) (d : List ℕ) where
   -- the state stays and nothing was written
@@ -31,19 +30,19 @@ module _ (G : Geometry) (d : List ℕ) where
 
   pub keeps_step :
       (es : List Event) (s t : State) (e : Event) → Keeps G d es s → Step G d s e t → Keeps G d (e ∷ es) t
-  keeps_step es s t (formatted Fine) k h = keeps_format G d s t h es
-  keeps_step es s t (formatted (Refused x)) k h =
-      keeps_still es (formatted (Refused x) ∷ es) s t (λ m j. refl) (refused_stays G d s t (formatted (Refused x)) h refl) k
+  keeps_step es s t (formatted (Ok tt)) k h = keeps_format G d s t h es
+  keeps_step es s t (formatted (Err x)) k h =
+      keeps_still es (formatted (Err x) ∷ es) s t (λ m j. refl) (refused_stays G d s t (formatted (Err x)) h refl) k
   keeps_step es s t (was_read n o bytes r) k h = keeps_still es (was_read n o bytes r ∷ es) s t (λ m j. refl) h.stays k
-  keeps_step es s t (written n o bytes Fine) k h = keeps_write G d s t n o bytes h es k
-  keeps_step es s t (written n o bytes (Refused x)) k h =
-      keeps_still es (written n o bytes (Refused x) ∷ es) s t (λ m j. refl)
-      (refused_stays G d s t (written n o bytes (Refused x)) h refl) k
+  keeps_step es s t (written n o bytes (Ok tt)) k h = keeps_write G d s t n o bytes h es k
+  keeps_step es s t (written n o bytes (Err x)) k h =
+      keeps_still es (written n o bytes (Err x) ∷ es) s t (λ m j. refl)
+      (refused_stays G d s t (written n o bytes (Err x)) h refl) k
   keeps_step es s t (audited r) k h = keeps_still es (audited r ∷ es) s t (λ m j. refl) h.stays k
-  keeps_step es s t (rebuilt (Rebuild.Restored c)) k h = keeps_rebuild G d es s t k c h
-  keeps_step es s t (rebuilt (Rebuild.Refused x)) k h =
-      keeps_still es (rebuilt (Rebuild.Refused x) ∷ es) s t (λ m j. refl)
-      (refused_stays G d s t (rebuilt (Rebuild.Refused x)) h refl) k
+  keeps_step es s t (rebuilt (Ok c)) k h = keeps_rebuild G d es s t k c h
+  keeps_step es s t (rebuilt (Err x)) k h =
+      keeps_still es (rebuilt (Err x) ∷ es) s t (λ m j. refl)
+      (refused_stays G d s t (rebuilt (Err x)) h refl) k
   keeps_step es s t asked k h = keeps_still es (asked ∷ es) s t (λ m j. refl) h k
   keeps_step es s t lost k h = keeps_loss G d es s t k h
 

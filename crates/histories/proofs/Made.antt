@@ -8,7 +8,6 @@ use lib.ListN.{get_or, length, replicate}
 use lib.Seq.{ext_get_or}
 use borrow.Author.Tests.{ne_eqb, le-ltb}
 use denote.Ref.{at_last}
-use Rattle.refusal.specs.declared.Checked.TheVariants.{Fine, Refused}
 use Rattle.refusal.specs.Refusal.{Rule, rule, accepted, verdict}
 use Rattle.refusal.proofs.Answer.{next, skip}
 use Rattle.geometry.specs.declared.Geometry.{Geometry}
@@ -39,16 +38,17 @@ use Rattle.histories.proofs.Losses.{ideal_on}
 use Rattle.histories.proofs.Rebuilds.{still_fine}
 use Rattle.histories.proofs.Demand.{demand_2}
 use Rattle.histories.proofs.Kept.{sizes_passed, every_history_keeps_its_ideal}
+use Rattle.std.specs.Prelude.{Ok, Err}
 
 -- the events that are left out write nothing that lasts
 last_same : (es : List Event) (m j : ℕ) → last_written (format_and_writes es) m j ≡ last_written es m j
 last_same [] m j = refl
-last_same (formatted Fine ∷ es) m j = refl
-last_same (formatted (Refused x) ∷ es) m j = last_same es m j
+last_same (formatted (Ok tt) ∷ es) m j = refl
+last_same (formatted (Err x) ∷ es) m j = last_same es m j
 last_same (was_read n o bytes r ∷ es) m j = last_same es m j
-last_same (written n o bytes Fine ∷ es) m j =
+last_same (written n o bytes (Ok tt) ∷ es) m j =
     ap (cond (holds n.0 o (length bytes) m j) (get_or bytes (j - o) 0)) (last_same es m j)
-last_same (written n o bytes (Refused x) ∷ es) m j = last_same es m j
+last_same (written n o bytes (Err x) ∷ es) m j = last_same es m j
 last_same (audited r ∷ es) m j = last_same es m j
 last_same (rebuilt r ∷ es) m j = last_same es m j
 last_same (asked ∷ es) m j = last_same es m j
@@ -61,13 +61,13 @@ module _ (G : Geometry) (d : List ℕ) where
     history : History G d es end
     marks : end.marks ≡ replicate (disks_of G) 0
 
-  format_again : (s t : State) → FormatStep G d s Fine t → Again (formatted Fine ∷ [])
+  format_again : (s t : State) → FormatStep G d s (Ok tt) t → Again (formatted (Ok tt) ∷ [])
   unfolding formatted_marks
   format_again s t f =
       record { end = t; history = start s t f; marks = ap (λ (x : State). x.marks) (format_leaves G d s t f) }
 
   -- ---- a write that was accepted is accepted where nothing is marked
-  module _ (fs : List Event) (w : Again fs) (s t : State) (n : UserUnit) (o : ℕ) (bytes : List ℕ) (p : WriteStep G d s n o bytes Fine t) where
+  module _ (fs : List Event) (w : Again fs) (s t : State) (n : UserUnit) (o : ℕ) (bytes : List ℕ) (p : WriteStep G d s n o bytes (Ok tt) t) where
     there : (x : Place) → lost G w.end.marks x ≡ false
     unfolding lost
     there x =
@@ -100,7 +100,7 @@ module _ (G : Geometry) (d : List ℕ) where
     abbrev new : List ℕ
     new = write_of G p.design.now w.end.array n.0 o p.new.now
 
-    write_again_step : WriteStep G d w.end n o bytes Fine (state new w.end.marks)
+    write_again_step : WriteStep G d w.end n o bytes (Ok tt) (state new w.end.marks)
     write_again_step =
         let fine : verdict
         (write_rules G p.design.now (length w.end.array) w.end.marks n.0 o (length p.new.now))
@@ -121,20 +121,20 @@ module _ (G : Geometry) (d : List ℕ) where
           meets = (sym fine, kept_new _ tt new w.end.array fine);
         }
 
-    write_again : Again (written n o bytes Fine ∷ fs)
+    write_again : Again (written n o bytes (Ok tt) ∷ fs)
     write_again =
         record {
           end = state new w.end.marks;
-          history = more fs w.end w.history (written n o bytes Fine) (state new w.end.marks) write_again_step;
+          history = more fs w.end w.history (written n o bytes (Ok tt)) (state new w.end.marks) write_again_step;
           marks = w.marks;
         }
 
   again_step : (es : List Event) (s t : State) (e : Event) → Step G d s e t → Again (format_and_writes es) → Again (format_and_writes (e ∷ es))
-  again_step es s t (formatted Fine) p w = format_again s t p
-  again_step es s t (formatted (Refused x)) p w = w
+  again_step es s t (formatted (Ok tt)) p w = format_again s t p
+  again_step es s t (formatted (Err x)) p w = w
   again_step es s t (was_read n o bytes r) p w = w
-  again_step es s t (written n o bytes Fine) p w = write_again (format_and_writes es) w s t n o bytes p
-  again_step es s t (written n o bytes (Refused x)) p w = w
+  again_step es s t (written n o bytes (Ok tt)) p w = write_again (format_and_writes es) w s t n o bytes p
+  again_step es s t (written n o bytes (Err x)) p w = w
   again_step es s t (audited r) p w = w
   again_step es s t (rebuilt r) p w = w
   again_step es s t asked p w = w

@@ -16,8 +16,6 @@ use Rattle.array.specs.Rules.{mark_high, array_rules}
 use Rattle.array.specs.Reasons.{array_rows}
 use Rattle.array.proofs.Fits.{words_fits, mark_low, array_fine}
 use Rattle.array.proofs.Reasons.{array_exact}
-use Rattle.rebuilding.specs.declared.Rebuilt.{Rebuilt}
-use Rattle.rebuilding.specs.declared.Rebuilt.TheVariants.{Restored}
 use Rattle.rebuilding.proofs.Accepted.{accepted_marks, accepted_comes_back, three_accepted}
 use Rattle.histories.specs.Histories.{State, Event, rebuilt, marked_disks, RebuildStep}
 use Rattle.histories.specs.Theorems.{Keeps}
@@ -25,10 +23,12 @@ use Rattle.histories.proofs.Bytes.{same_present}
 use Rattle.histories.proofs.Refused.{state, same_state}
 use Rattle.histories.proofs.Start.{none_marked}
 use Rattle.histories.proofs.Losses.{ideal_on}
+use Rattle.std.specs.Prelude.{Result, Ok}
+use Rattle.refusal.specs.declared.Refusal.{Refusal}
 
 module _ (G : Geometry) (d : List ℕ) (es : List Event) (s t : State) (k : Keeps G d es s) where
   -- ---- an accepted one
-  module _ (c : ℕ) (b : RebuildStep G d s (Restored c) t) where
+  module _ (c : ℕ) (b : RebuildStep G d s (Ok c) t) where
     pub rebuild_leaves : t ≡ state k.ideal (replicate (disks_of G) 0)
     rebuild_leaves =
         same_state t (state k.ideal (replicate (disks_of G) 0))
@@ -40,9 +40,9 @@ module _ (G : Geometry) (d : List ℕ) (es : List Event) (s t : State) (k : Keep
         (sym b.are_marks_after
         ∙ accepted_marks b.lifetimes G b.design b.array b.marks c b.array_after b.marks_after b.meets)
 
-    pub keeps_rebuild : Keeps G d (rebuilt (Restored c) ∷ es) t
+    pub keeps_rebuild : Keeps G d (rebuilt (Ok c) ∷ es) t
     keeps_rebuild =
-        subst (Keeps G d (rebuilt (Restored c) ∷ es)) (sym rebuild_leaves)
+        subst (Keeps G d (rebuilt (Ok c) ∷ es)) (sym rebuild_leaves)
         (record {
           laid = k.laid;
           array_long = k.is_ideal.long;
@@ -50,7 +50,7 @@ module _ (G : Geometry) (d : List ℕ) (es : List Event) (s t : State) (k : Keep
           marks_low = λ x l. omega (arith, at_zeros (disks_of G) x);
           three = omega (arith, none_marked G d);
           ideal = k.ideal;
-          is_ideal = ideal_on G d es (rebuilt (Restored c) ∷ es) (λ m j. refl) k.ideal k.is_ideal;
+          is_ideal = ideal_on G d es (rebuilt (Ok c) ∷ es) (λ m j. refl) k.ideal k.is_ideal;
           present = λ p low e. refl;
         })
 
@@ -69,7 +69,7 @@ module _ (G : Geometry) (d : List ℕ) (es : List Event) (s t : State) (k : Keep
     none_due : NoneDue (array_rows G d (length s.array) s.marks)
     none_due = (array_exact G d (length s.array) s.marks tt).acceptance.0 (tt, still_fine)
 
-    pub rebuild_answers : (r : Rebuilt) → RebuildStep G d s r t → r ≡ Restored (marked_disks G s.marks * units_of G)
+    pub rebuild_answers : (r : Result ℕ Refusal) → RebuildStep G d s r t → r ≡ Ok (marked_disks G s.marks * units_of G)
     rebuild_answers r b =
         rw b.are_marks at
         (three_accepted b.lifetimes G b.design b.array b.marks (rw (b.is_design, b.is_array, b.are_marks) none_due) r

@@ -12,8 +12,7 @@ use denote.Ref.{Bor, MutBor}
 use Rattle.counting.specs.Counting.{any_below}
 use Rattle.counting.proofs.Bools.{or_one}
 use Rattle.counting.proofs.Laws.{any_none}
-use Rattle.refusal.specs.declared.Checked.{Checked}
-use Rattle.refusal.specs.Refusal.{Outcome, answer, verdict, kept, checked_outcome}
+use Rattle.refusal.specs.Refusal.{Outcome, answer, verdict, kept, outcome_of}
 use Rattle.geometry.specs.declared.Geometry.{Geometry}
 use Rattle.geometry.specs.declared.UserUnit.{UserUnit}
 use Rattle.geometry.specs.Geometry.{disks_of, bytes_of}
@@ -23,13 +22,14 @@ use Rattle.reading.specs.Reading.{read_of, read_rules}
 use Rattle.fourfold.specs.Writing.{write_of}
 use Rattle.writing.specs.Writing.{write_rules}
 use Rattle.finding.specs.Bad.{audit_of}
-use Rattle.auditing.specs.declared.Audited.{Audited}
-use Rattle.auditing.specs.Auditing.{audit_rules, audited_outcome}
-use Rattle.rebuilding.specs.declared.Rebuilt.{Rebuilt}
-use Rattle.rebuilding.specs.Rebuild.{rebuilt_of, restored_of, rebuild_rules, rebuilt_outcome}
+use Rattle.auditing.specs.Auditing.{audit_rules}
+use Rattle.rebuilding.specs.Rebuild.{rebuilt_of, restored_of, rebuild_rules}
 use Rattle.histories.specs.Histories.{State, disk_of, marked_disks, Loss, Handed, BothStep, FormatStep, ReadStep, WriteStep, AuditStep, RebuildStep}
 use Rattle.array.proofs.format.Reads as format
 use Rattle.rebuilding.proofs.rebuild.Reads as rebuild
+use Rattle.finding.specs.declared.Found.{Found}
+use Rattle.std.specs.Prelude.{Result}
+use Rattle.refusal.specs.declared.Refusal.{Refusal}
 
 abbrev ref : List ℕ → Bor (List ℕ)
 ref xs = record { ref_ptr = (0, 0); now = xs }
@@ -63,13 +63,13 @@ module _ (G : Geometry) (d : List ℕ) (s t : State) where
   format_verdict = verdict (array_rules G d (length s.array) s.marks)
 
   pub format_step :
-      (r : Checked) → checked_outcome r ≡ format_verdict → t.array ≡ kept format_verdict (formatted_array G) s.array
+      (r : Result (Unit {0}) Refusal) → outcome_of r ≡ format_verdict → t.array ≡ kept format_verdict (formatted_array G) s.array
       → t.marks ≡ kept format_verdict (formatted_marks G) s.marks → FormatStep G d s r t
   format_step r e a m = both_step format.Post r (e, a, m)
 
-  module _ (n : UserUnit) (o : ℕ) (bytes : List ℕ) (r : Checked) where
+  module _ (n : UserUnit) (o : ℕ) (bytes : List ℕ) (r : Result (Unit {0}) Refusal) where
     pub write_step :
-        checked_outcome r ≡ verdict (write_rules G d (length s.array) s.marks n.0 o (length bytes))
+        outcome_of r ≡ verdict (write_rules G d (length s.array) s.marks n.0 o (length bytes))
         → t.array
         ≡ kept (verdict (write_rules G d (length s.array) s.marks n.0 o (length bytes)))
         (write_of G d s.array n.0 o bytes) s.array
@@ -92,7 +92,7 @@ module _ (G : Geometry) (d : List ℕ) (s t : State) where
         }
 
     pub read_step :
-        (out : List ℕ) → checked_outcome r ≡ verdict (read_rules G d (length s.array) s.marks n.0 o (length out))
+        (out : List ℕ) → outcome_of r ≡ verdict (read_rules G d (length s.array) s.marks n.0 o (length out))
         → bytes
         ≡ kept (verdict (read_rules G d (length s.array) s.marks n.0 o (length out)))
         (read_of G d s.array n.0 o (length out)) out
@@ -114,7 +114,7 @@ module _ (G : Geometry) (d : List ℕ) (s t : State) where
         }
 
   pub audit_step :
-      (r : Audited) → audited_outcome r ≡ answer (audit_rules G d (length s.array)) (audit_of G d s.array) → AuditStep G d s r s
+      (r : Result Found Refusal) → outcome_of r ≡ answer (audit_rules G d (length s.array)) (audit_of G d s.array) → AuditStep G d s r s
   audit_step r e =
       record {
         lifetimes = ([], ([], tt));
@@ -130,7 +130,7 @@ module _ (G : Geometry) (d : List ℕ) (s t : State) where
   rebuild_answer = answer (rebuild_rules G d (length s.array) s.marks) (restored_of G d s.marks)
 
   pub rebuild_step :
-      (r : Rebuilt) → rebuilt_outcome r ≡ rebuild_answer
+      (r : Result ℕ Refusal) → outcome_of r ≡ rebuild_answer
       → t.array ≡ kept rebuild_answer (rebuilt_of G d s.marks s.array) s.array
       → t.marks ≡ kept rebuild_answer (formatted_marks G) s.marks → RebuildStep G d s r t
   rebuild_step r e a m = both_step rebuild.Post r (e, a, m)

@@ -11,7 +11,6 @@ use lib.Dec.{eqb, leb}
 use lib.ListN.{get_or, length}
 use borrow.Author.Tests.{eq-eqb, ne_eqb, le-leb, lt-leb, lt-ltb, le-ltb}
 use Rattle.counting.proofs.Bools.{both_and, and_left_false, and_right_false}
-use Rattle.refusal.specs.declared.Checked.TheVariants.{Fine}
 use Rattle.refusal.specs.Refusal.{Rule, rule, accepted, verdict}
 use Rattle.refusal.proofs.Answer.{accepted_append, accepted_quiet}
 use Rattle.geometry.specs.declared.Geometry.{Geometry}
@@ -46,6 +45,7 @@ use Rattle.histories.specs.Ideal.{Ideal, holds, last_written}
 use Rattle.histories.specs.Theorems.{SamePresentBytes, Keeps}
 use Rattle.histories.proofs.Refused.{state, same_state}
 use Rattle.histories.proofs.Bytes.{unit_same, mark_of_present, add_all_same}
+use Rattle.std.specs.Prelude.{Ok}
 
 first_none : (w x y z : Bool) → (w || x || y || z) ≡ false → w ≡ false
 first_none true x y z e = e
@@ -185,10 +185,10 @@ module _ (G : Geometry) (d i : List ℕ) (es : List Event) (n : UserUnit) (o : �
     (I : Ideal G d es i) where
   abbrev User : ℕ → ℕ → Type 0
   User m j =
-      get_or (write_of G d i n.0 o new) (cell_start G d (user_cell G m) + j) 0 ≡ last_written (written n o new Fine ∷ es) m j
+      get_or (write_of G d i n.0 o new) (cell_start G d (user_cell G m) + j) 0 ≡ last_written (written n o new (Ok tt) ∷ es) m j
 
   chosen : (b : Bool) (m j : ℕ) → holds n.0 o (length new) m j ≡ b →
-      last_written (written n o new Fine ∷ es) m j ≡ cond b (get_or new (j - o) 0) (last_written es m j)
+      last_written (written n o new (Ok tt) ∷ es) m j ≡ cond b (get_or new (j - o) 0) (last_written es m j)
   chosen b m j e = ap (λ (x : Bool). cond x (get_or new (j - o) 0) (last_written es m j)) e
 
   user_same : (m j : ℕ) → n.0 ≡ m → m < user_units_of G → j < G.u → User m j
@@ -226,7 +226,7 @@ module _ (G : Geometry) (d i : List ℕ) (es : List Event) (n : UserUnit) (o : �
           written_other G d i n.0 o new R m low (λ (e : m ≡ n.0). ne (sym e)) j l ∙ I.user m low j l
           ∙ sym (chosen false m j (and_left_false (eqb n.0 m) _ (ne_eqb n.0 m ne)))
 
-  pub ideal_written : Ideal G d (written n o new Fine ∷ es) (write_of G d i n.0 o new)
+  pub ideal_written : Ideal G d (written n o new (Ok tt) ∷ es) (write_of G d i n.0 o new)
   ideal_written =
       record {
         long = (a_write_puts_one_difference_into_four_units G d i n.0 o new R).long ∙ I.long;
@@ -235,7 +235,7 @@ module _ (G : Geometry) (d i : List ℕ) (es : List Event) (n : UserUnit) (o : �
       }
 
 -- ---- an accepted write
-module _ (G : Geometry) (d : List ℕ) (s t : State) (n : UserUnit) (o : ℕ) (new : List ℕ) (w : WriteStep G d s n o new Fine t) where
+module _ (G : Geometry) (d : List ℕ) (s t : State) (n : UserUnit) (o : ℕ) (new : List ℕ) (w : WriteStep G d s n o new (Ok tt) t) where
   pub write_fine : verdict (write_rules G d (length s.array) s.marks n.0 o (length new)) ≡ accepted tt
   write_fine = rw (w.is_design, w.is_array, w.are_marks, w.are_bytes) at (sym w.meets.0)
 
@@ -247,11 +247,11 @@ module _ (G : Geometry) (d : List ℕ) (s t : State) (n : UserUnit) (o : ℕ) (n
       (write_accepted w.lifetimes G w.design w.array w.marks n o w.new w.array_after w.meets))
       w.marks_stay
 
-  pub keeps_write : (es : List Event) → Keeps G d es s → Keeps G d (written n o new Fine ∷ es) t
+  pub keeps_write : (es : List Event) → Keeps G d es s → Keeps G d (written n o new (Ok tt) ∷ es) t
   keeps_write es k =
       let T = write_through G d s.marks n.0 o (length new) s.array write_fine in
       let i : List ℕ = k.ideal in
-      subst (Keeps G d (written n o new Fine ∷ es)) (sym write_leaves)
+      subst (Keeps G d (written n o new (Ok tt) ∷ es)) (sym write_leaves)
       (record {
         laid = k.laid;
         array_long = (a_write_puts_one_difference_into_four_units G d s.array n.0 o new T.range).long ∙ k.array_long;

@@ -4,20 +4,17 @@ use Rattle.std.specs.Prelude.{ℕ, ◌*◌, ◌/◌, ◌≤◌, ◌<◌, ◌≡�
 use contract.Lifetimes.{Lfts}
 use Rattle.std.specs.Borrow.{Bor, MutBor}
 use Rattle.counting.specs.Counting.{count_below}
-use Rattle.refusal.specs.declared.Checked.{Checked}
-use Rattle.refusal.specs.declared.Checked.TheVariants.{Fine, Refused}
 use Rattle.geometry.specs.declared.Geometry.{Geometry}
 use Rattle.geometry.specs.declared.UserUnit.{UserUnit}
 use Rattle.geometry.specs.Geometry.{disks_of, units_of, bytes_of}
-use Rattle.auditing.specs.declared.Audited.{Audited}
-use Rattle.auditing.specs.declared.Audited.TheVariants as Audit
-use Rattle.rebuilding.specs.declared.Rebuilt.{Rebuilt}
-use Rattle.rebuilding.specs.declared.Rebuilt.TheVariants as Rebuild
 use Rattle.array.proofs.format.Reads as format
 use Rattle.reading.proofs.read.Reads as read
 use Rattle.writing.proofs.write.Reads as write
 use Rattle.auditing.proofs.audit.Reads as audit
 use Rattle.rebuilding.proofs.rebuild.Reads as rebuild
+use Rattle.finding.specs.declared.Found.{Found}
+use Rattle.std.specs.Prelude.{Result, Ok, Err}
+use Rattle.refusal.specs.declared.Refusal.{Refusal}
 
 -- the bytes of all disks, and the mark of each disk
 pub record State : Type 0 where
@@ -27,11 +24,11 @@ pub record State : Type 0 where
 -- what happens, with what the caller lent and what was answered: `bytes` of a read are those of the buffer at return; `asked` is
 -- any other public call, none of which is lent the array, nor the marks to change; `lost` is no call
 pub data Event : Type 0 where
-  formatted : Checked → Event
-  was_read : (n : UserUnit) → (offset : ℕ) → (bytes : List ℕ) → Checked → Event
-  written : (n : UserUnit) → (offset : ℕ) → (bytes : List ℕ) → Checked → Event
-  audited : Audited → Event
-  rebuilt : Rebuilt → Event
+  formatted : Result (Unit {0}) Refusal → Event
+  was_read : (n : UserUnit) → (offset : ℕ) → (bytes : List ℕ) → Result (Unit {0}) Refusal → Event
+  written : (n : UserUnit) → (offset : ℕ) → (bytes : List ℕ) → Result (Unit {0}) Refusal → Event
+  audited : Result Found Refusal → Event
+  rebuilt : Result ℕ Refusal → Event
   asked : Event
   lost : Event
 
@@ -73,13 +70,13 @@ pub record BothStep
     pub are_marks_after : marks_after.now ≡ t.marks
     pub meets : Post lifetimes (G, (design, (array, (marks, tt)))) r (G, (design, (array_after, (marks_after, tt))))
 
-abbrev pub FormatStep : Geometry → List ℕ → State → Checked → State → Type 0
+abbrev pub FormatStep : Geometry → List ℕ → State → Result (Unit {0}) Refusal → State → Type 0
 FormatStep = BothStep format.Post
 
-abbrev pub RebuildStep : Geometry → List ℕ → State → Rebuilt → State → Type 0
+abbrev pub RebuildStep : Geometry → List ℕ → State → Result ℕ Refusal → State → Type 0
 RebuildStep = BothStep rebuild.Post
 
-pub record ReadStep (G : Geometry) (d : List ℕ) (s : State) (n : UserUnit) (offset : ℕ) (bytes : List ℕ) (r : Checked) (t : State) : Type 0 where
+pub record ReadStep (G : Geometry) (d : List ℕ) (s : State) (n : UserUnit) (offset : ℕ) (bytes : List ℕ) (r : Result (Unit {0}) Refusal) (t : State) : Type 0 where
   pub lifetimes : Lfts 4
   pub design : Bor (List ℕ)
   pub array : Bor (List ℕ)
@@ -95,7 +92,7 @@ pub record ReadStep (G : Geometry) (d : List ℕ) (s : State) (n : UserUnit) (of
       read.Post lifetimes (G, (design, (array, (marks, (n, (offset, (out, tt))))))) r
       (G, (design, (array, (marks, (n, (offset, (out_after, tt)))))))
 
-pub record WriteStep (G : Geometry) (d : List ℕ) (s : State) (n : UserUnit) (offset : ℕ) (bytes : List ℕ) (r : Checked) (t : State) : Type 0 where
+pub record WriteStep (G : Geometry) (d : List ℕ) (s : State) (n : UserUnit) (offset : ℕ) (bytes : List ℕ) (r : Result (Unit {0}) Refusal) (t : State) : Type 0 where
   pub lifetimes : Lfts 4
   pub design : Bor (List ℕ)
   pub array : MutBor (List ℕ)
@@ -112,7 +109,7 @@ pub record WriteStep (G : Geometry) (d : List ℕ) (s : State) (n : UserUnit) (o
       write.Post lifetimes (G, (design, (array, (marks, (n, (offset, (new, tt))))))) r
       (G, (design, (array_after, (marks, (n, (offset, (new, tt)))))))
 
-pub record AuditStep (G : Geometry) (d : List ℕ) (s : State) (r : Audited) (t : State) : Type 0 where
+pub record AuditStep (G : Geometry) (d : List ℕ) (s : State) (r : Result Found Refusal) (t : State) : Type 0 where
   pub lifetimes : Lfts 2
   pub design : Bor (List ℕ)
   pub array : Bor (List ℕ)
@@ -133,20 +130,20 @@ Step G d s lost t = Loss G s t
 
 -- "Start from a formatted array and make any calls": the newest event first
 pub data History (G : Geometry) (d : List ℕ) : List Event → State → Type 0 where
-  start : (s t : State) → Step G d s (formatted Fine) t → History G d (formatted Fine ∷ []) t
+  start : (s t : State) → Step G d s (formatted (Ok tt)) t → History G d (formatted (Ok tt) ∷ []) t
   more : (es : List Event) (s : State) → History G d es s → (e : Event) (t : State) → Step G d s e t → History G d (e ∷ es) t
 
 -- the event is a call that was refused
 abbrev pub refused_call : Event → Bool
-refused_call (formatted Fine) = false
-refused_call (formatted (Refused x)) = true
-refused_call (was_read n o bytes Fine) = false
-refused_call (was_read n o bytes (Refused x)) = true
-refused_call (written n o bytes Fine) = false
-refused_call (written n o bytes (Refused x)) = true
-refused_call (audited (Audit.Found x)) = false
-refused_call (audited (Audit.Refused x)) = true
-refused_call (rebuilt (Rebuild.Restored x)) = false
-refused_call (rebuilt (Rebuild.Refused x)) = true
+refused_call (formatted (Ok tt)) = false
+refused_call (formatted (Err x)) = true
+refused_call (was_read n o bytes (Ok tt)) = false
+refused_call (was_read n o bytes (Err x)) = true
+refused_call (written n o bytes (Ok tt)) = false
+refused_call (written n o bytes (Err x)) = true
+refused_call (audited (Ok x)) = false
+refused_call (audited (Err x)) = true
+refused_call (rebuilt (Ok x)) = false
+refused_call (rebuilt (Err x)) = true
 refused_call asked = false
 refused_call lost = false

@@ -1,17 +1,16 @@
 -- What is proved of histories, each under its sentence of 00: the statements alone. Assumes nothing.
 use Rattle.std.specs.Prelude.{ℕ, ◌+◌, ◌*◌, ◌≤◌, ◌<◌, ◌≡◌, true, List, ◌∷◌, get_or, length, replicate}
-use Rattle.refusal.specs.declared.Checked.TheVariants.{Fine}
 use Rattle.geometry.specs.declared.Geometry.{Geometry}
 use Rattle.geometry.specs.declared.UserUnit.{UserUnit}
 use Rattle.geometry.specs.Geometry.{disks_of, units_of, bytes_of}
 use Rattle.design.specs.Design.{Laid}
-use Rattle.rebuilding.specs.declared.Rebuilt.{Rebuilt}
-use Rattle.rebuilding.specs.declared.Rebuilt.TheVariants as Rebuild
 use Rattle.histories.specs.Histories.{State, Event, was_read, rebuilt}
 use Rattle.histories.specs.Histories.{disk_of, marked_disks, Step, History, refused_call}
 use Rattle.histories.specs.Ideal.{last_written, Ideal}
 use Rattle.histories.specs.Made.{Made}
 use Rattle.histories.specs.Example.{pairs, rows, events, left}
+use Rattle.std.specs.Prelude.{Result, Ok}
+use Rattle.refusal.specs.declared.Refusal.{Refusal}
 
 -- dropping the newest event leaves a history, and a step from where it ended
 abbrev pub AHistoryWithoutItsNewestEventIsOne : Type 0
@@ -54,16 +53,16 @@ pub record AsIfNothingWereLost (G : Geometry) (d : List ℕ) (es : List Event) (
   pub present : SamePresentBytes G t.marks t.array ideal
   -- an accepted read gives the bytes last written
   pub reads :
-      (n : UserUnit) (offset : ℕ) (bytes : List ℕ) (w : State) → Step G d t (was_read n offset bytes Fine) w →
+      (n : UserUnit) (offset : ℕ) (bytes : List ℕ) (w : State) → Step G d t (was_read n offset bytes (Ok tt)) w →
       (j : ℕ) → j < length bytes → get_or bytes j 0 ≡ last_written es n.0 (offset + j)
   -- a refused call leaves array and marks as they were
   pub refusals : (e : Event) (w : State) → Step G d t e w → refused_call e ≡ true → w ≡ t
   -- a rebuild is not refused, restores the units of the marked disks, and leaves the ideal and no mark
   pub rebuilds :
-      (r : Rebuilt) (w : State) → Step G d t (rebuilt r) w →
-      (r ≡ Rebuild.Restored (marked_disks G t.marks * units_of G)) × (w.array ≡ ideal) × (w.marks ≡ replicate (disks_of G) 0)
+      (r : Result ℕ Refusal) (w : State) → Step G d t (rebuilt r) w →
+      (r ≡ Ok (marked_disks G t.marks * units_of G)) × (w.array ≡ ideal) × (w.marks ≡ replicate (disks_of G) 0)
   -- and some answer meets its contract
-  pub can_rebuild : (r : Rebuilt) × (w : State) × Step G d t (rebuilt r) w
+  pub can_rebuild : (r : Result ℕ Refusal) × (w : State) × Step G d t (rebuilt r) w
 
 abbrev pub Demand2 : Type 0
 Demand2 = (G : Geometry) (d : List ℕ) (es : List Event) (t : State) → History G d es t → AsIfNothingWereLost G d es t
@@ -78,8 +77,8 @@ TheIdealIsWhatFormatAndWritesMake =
 abbrev pub ARebuildLeavesWhatFormatAndWritesMake : Type 0
 ARebuildLeavesWhatFormatAndWritesMake =
     (G : Geometry) (d : List ℕ) (es : List Event) (t : State) → History G d es t →
-    (r : Rebuilt) (w : State) → Step G d t (rebuilt r) w →
-    (r ≡ Rebuild.Restored (marked_disks G t.marks * units_of G)) × Made G d es w.array
+    (r : Result ℕ Refusal) (w : State) → Step G d t (rebuilt r) w →
+    (r ≡ Ok (marked_disks G t.marks * units_of G)) × Made G d es w.array
 
 -- none of this is empty: thirteen events, with the numbers of their answers, and the 108 bytes that they leave
 pub record ByNumbers : Type 0 where

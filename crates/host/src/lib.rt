@@ -29,14 +29,14 @@ pub fn himzolven_fill(v: u32, design: &mut [u16]) -> Answer
         × (design.new
         ≡ kept (verdict (fill_rules v (length design.old))) (held_design v) design.old) }
 {
-    answers::answer_of(held::fill(v, design))
+    held::fill(v, design).into()
 }
 
 // Checks a design: refusals 2 to 5.
 pub fn himzolven_check(v: u32, k: u32, design: &[u16]) -> Answer
     ensures { result ≡ flat_answer (verdict (design_rules v k design.now)) }
 {
-    answers::answer_of(checking::check(v, k, design))
+    checking::check(v, k, design).into()
 }
 
 // The sizes of a design and geometry: refusals 2 to 6.
@@ -44,7 +44,7 @@ pub fn himzolven_sizes(v: u32, k: u32, g: u32, u: u32, design: &[u16]) -> SizesA
     ensures { result
         ≡ flat_sizes (answer (sizes_rules (geometry v k g u) design.now) (sizes_of (geometry v k g u))) }
 {
-    answers::sizes_answer(sizes::sizes_of(Geometry { v, k, g, u }, design))
+    sizes::sizes_of(Geometry { v, k, g, u }, design).into()
 }
 
 // The four places of a user unit: refusals 2 to 6 and 10.
@@ -54,7 +54,7 @@ pub fn himzolven_map(v: u32, k: u32, g: u32, u: u32, design: &[u16], user_unit: 
         (answer (map_rules (geometry v k g u) design.now user_unit)
         (four_of (geometry v k g u) design.now user_unit)) }
 {
-    answers::map_of(address::map(Geometry { v, k, g, u }, design, UserUnit(user_unit)))
+    address::map(Geometry { v, k, g, u }, design, UserUnit(user_unit)).into()
 }
 
 // The role of a disk's unit: refusals 2 to 6 and 9.
@@ -72,7 +72,7 @@ pub fn himzolven_role(
         (answer (role_rules (geometry v k g u) design.now disk unit)
         (role_at (geometry v k g u) design.now disk unit)) }
 {
-    answers::located_of(address::role(Geometry { v, k, g, u }, design, Disk(disk), Unit(unit)))
+    address::role(Geometry { v, k, g, u }, design, Disk(disk), Unit(unit)).into()
 }
 
 // Makes all array bytes and marks 0: refusals 2 to 8.
@@ -94,7 +94,7 @@ pub fn himzolven_format(
         ≡ kept (verdict (array_rules (geometry v k g u) design.now (length array.old) marks.old))
         (formatted_marks (geometry v k g u)) marks.old) }
 {
-    answers::answer_of(array::format(Geometry { v, k, g, u }, design, array, marks))
+    array::format(Geometry { v, k, g, u }, design, array, marks).into()
 }
 
 // Reads a byte range of one user unit into the lent buffer: refusals 2 to 8 and 10 to 12.
@@ -123,7 +123,7 @@ pub fn himzolven_read(
         (read_of (geometry v k g u) design.now array.now user_unit offset (length bytes.old))
         bytes.old) }
 {
-    answers::answer_of(reading::read(
+    reading::read(
         Geometry { v, k, g, u },
         design,
         array,
@@ -131,7 +131,8 @@ pub fn himzolven_read(
         UserUnit(user_unit),
         offset,
         bytes,
-    ))
+    )
+    .into()
 }
 
 // Writes a byte range of one user unit, and its difference to what was there into three parity units: refusals 2 to 8 and 10 to 12.
@@ -160,7 +161,7 @@ pub fn himzolven_write(
         (write_of (geometry v k g u) design.now array.old user_unit offset bytes.now)
         array.old) }
 {
-    answers::answer_of(writing::write(
+    writing::write(
         Geometry { v, k, g, u },
         design,
         array,
@@ -168,7 +169,8 @@ pub fn himzolven_write(
         UserUnit(user_unit),
         offset,
         bytes,
-    ))
+    )
+    .into()
 }
 
 // How many sets don't XOR to zero, and the lowest of them: refusals 2 to 7.
@@ -178,7 +180,7 @@ pub fn himzolven_audit(v: u32, k: u32, g: u32, u: u32, design: &[u16], array: &[
         (answer (audit_rules (geometry v k g u) design.now (length array.now))
         (audit_of (geometry v k g u) design.now array.now)) }
 {
-    answers::audit_of(auditing::audit(Geometry { v, k, g, u }, design, array))
+    auditing::audit(Geometry { v, k, g, u }, design, array).into()
 }
 
 // Lists the units that are read to restore one disk, and counts the triples: refusals 2 to 6, 9 and 14.
@@ -202,7 +204,7 @@ pub fn himzolven_plan(
         (planned (geometry v k g u) design.now disk list.old)
         list.old) }
 {
-    answers::planned_of(planning::plan(Geometry { v, k, g, u }, design, Disk(disk), list))
+    planning::plan(Geometry { v, k, g, u }, design, Disk(disk), list).into()
 }
 
 // Gives the lost disks their bytes back, clears the marks and counts the units restored: refusals 2 to 8 and 13.
@@ -231,5 +233,5 @@ pub fn himzolven_rebuild(
         (restored_of (geometry v k g u) design.now marks.old))
         (formatted_marks (geometry v k g u)) marks.old) }
 {
-    answers::rebuilt_of(rebuilding::rebuild(Geometry { v, k, g, u }, design, array, marks))
+    rebuilding::rebuild(Geometry { v, k, g, u }, design, array, marks).into()
 }

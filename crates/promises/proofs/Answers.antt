@@ -2,31 +2,31 @@
 use mathlib.Core.Path.{sym, ◌∙◌}
 use contract.Lifetimes.{Lfts}
 use Rattle.promises.proofs.Settled.{Settled}
-use Rattle.answers.proofs.answer_of.Reads as answer-of
-use Rattle.answers.proofs.sizes_answer.Reads as sizes-answer
-use Rattle.answers.proofs.map_of.Reads as map_of
-use Rattle.answers.proofs.located_of.Reads as located-of
-use Rattle.answers.proofs.audit_of.Reads as audit-of
-use Rattle.answers.proofs.planned_of.Reads as planned-of
-use Rattle.answers.proofs.rebuilt_of.Reads as rebuilt-of
+use Rattle.answers.proofs.AnswerFromResultUnitRefusal.from.Reads as answer-from
+use Rattle.answers.proofs.SizesAnswerFromResultSizesRefusal.from.Reads as sizes-from
+use Rattle.answers.proofs.MapAnswerFromResultFourRefusal.from.Reads as map-from
+use Rattle.answers.proofs.RoleAnswerFromRole.from.Reads as role-from
+use Rattle.answers.proofs.RoleAnswerFromResultRoleRefusal.from.Reads as located-from
+use Rattle.answers.proofs.AuditAnswerFromResultFoundRefusal.from.Reads as audit-from
+use Rattle.answers.proofs.CountAnswerFromResultU32Refusal.from.Reads as count-from
 
-pub answer_of_two_results : (κs : Lfts 0) → Settled (answer-of.Post κs)
-answer_of_two_results κs a x y r s p q = p ∙ sym q
+pub answer_two_results : (κs : Lfts 0) → Settled (answer-from.Post κs)
+answer_two_results κs a x y r s p q = p ∙ sym q
 
-pub sizes_answer_two_results : (κs : Lfts 0) → Settled (sizes-answer.Post κs)
-sizes_answer_two_results κs a x y r s p q = p ∙ sym q
+pub sizes_two_results : (κs : Lfts 0) → Settled (sizes-from.Post κs)
+sizes_two_results κs a x y r s p q = p ∙ sym q
 
-pub map_of_two_results : (κs : Lfts 0) → Settled (map_of.Post κs)
-map_of_two_results κs a x y r s p q = p ∙ sym q
+pub map_two_results : (κs : Lfts 0) → Settled (map-from.Post κs)
+map_two_results κs a x y r s p q = p ∙ sym q
 
-pub located_of_two_results : (κs : Lfts 0) → Settled (located-of.Post κs)
-located_of_two_results κs a x y r s p q = p ∙ sym q
+pub role_two_results : (κs : Lfts 0) → Settled (role-from.Post κs)
+role_two_results κs a x y r s p q = p ∙ sym q
 
-pub audit_of_two_results : (κs : Lfts 0) → Settled (audit-of.Post κs)
-audit_of_two_results κs a x y r s p q = p ∙ sym q
+pub located_two_results : (κs : Lfts 0) → Settled (located-from.Post κs)
+located_two_results κs a x y r s p q = p ∙ sym q
 
-pub planned_of_two_results : (κs : Lfts 0) → Settled (planned-of.Post κs)
-planned_of_two_results κs a x y r s p q = p ∙ sym q
+pub audit_two_results : (κs : Lfts 0) → Settled (audit-from.Post κs)
+audit_two_results κs a x y r s p q = p ∙ sym q
 
-pub rebuilt_of_two_results : (κs : Lfts 0) → Settled (rebuilt-of.Post κs)
-rebuilt_of_two_results κs a x y r s p q = p ∙ sym q
+pub count_two_results : (κs : Lfts 0) → Settled (count-from.Post κs)
+count_two_results κs a x y r s p q = p ∙ sym q

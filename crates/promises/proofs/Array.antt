@@ -1,7 +1,7 @@
 -- Two results that a promise of `array` allows for the same arguments are one. Assumes nothing.
 use mathlib.Core.Path.{sym, ◌∙◌}
 use contract.Lifetimes.{Lfts}
-use Rattle.refusal.proofs.Same.{same_checked}
+use Rattle.refusal.proofs.Same.{same_answer}
 use Rattle.promises.proofs.Settled.{Settled}
 use Rattle.array.proofs.start_of.Reads as start_of
 use Rattle.array.proofs.array_fits.Reads as array-fits
@@ -18,4 +18,4 @@ pub is_lost_two_results : (κs : Lfts 1) → Settled (is_lost.Post κs)
 is_lost_two_results κs a x y r s p q = p ∙ sym q
 
 pub check_range_two_results : (κs : Lfts 0) → Settled (check-range.Post κs)
-check_range_two_results κs a x y r s p q = same_checked r s (p ∙ sym q)
+check_range_two_results κs a x y r s p q = same_answer r s (p ∙ sym q)

@@ -14,4 +14,5 @@ pub mod Reaching
 pub mod Passing
 pub mod Sources
 pub mod Answers
+pub mod Refusals
 pub mod Equation

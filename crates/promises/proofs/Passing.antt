@@ -16,8 +16,8 @@ same_reached r s p q =
     ∙ ap (λ (b : Bool). record { count = s.count; complete = b }) q
 
 pub reach_two_results :
-    (κs : Lfts 4) →
-    SettledAt {L = List Bool × List ℕ} (reach.Post κs) (λ a. (a.1.1.1.1.0.now, a.1.1.1.1.1.0.now))
+    (κs : Lfts 5) →
+    SettledAt {L = List Bool × List ℕ} (reach.Post κs) (λ a. (a.1.1.1.0.now, a.1.1.1.1.0.now))
 reach_two_results κs a x y r s p q =
     let same = p.0 ∙ sym q.0 in
     (same_reached r s (ap (λ (x : State). x.count) same) (p.1 ∙ sym q.1), ap (λ (x : State). (x.flags, x.log)) same)

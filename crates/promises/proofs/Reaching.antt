@@ -9,9 +9,13 @@ use Rattle.reaching.specs.State.{State}
 use Rattle.promises.proofs.Settled.{Settled, SettledAt}
 use Rattle.reaching.proofs.cell_numbered.Reads as cell-numbered
 use Rattle.reaching.proofs.passes.Reads as passes
+use Rattle.reaching.proofs.read_entry.Reads as read-entry
 
 pub cell_numbered_two_results : (κs : Lfts 0) → Settled (cell-numbered.Post κs)
 cell_numbered_two_results κs a x y r s p q = p.0 ∙ sym q.0
+
+pub read_entry_two_results : (κs : Lfts 0) → Settled (read-entry.Post κs)
+read_entry_two_results κs a x y r s p q = p ∙ sym q
 
 -- with the flags and the log
 pub passes_two_results :

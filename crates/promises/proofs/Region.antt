@@ -7,6 +7,7 @@ use Rattle.region.proofs.label_at.Reads as label_at
 use Rattle.region.proofs.column_of_diagonal.Reads as column-of-diagonal
 use Rattle.region.proofs.diagonal_at.Reads as diagonal-at
 use Rattle.region.proofs.parity_column.Reads as parity-column
+use Rattle.region.proofs.turned.Reads as turned
 
 pub column_of_label_two_results : (κs : Lfts 0) → Settled (column-of-label.Post κs)
 column_of_label_two_results κs a x y r s p q = p.0 ∙ sym q.0
@@ -22,3 +23,6 @@ diagonal_at_two_results κs a x y r s p q = p.0 ∙ sym q.0
 
 pub parity_column_two_results : (κs : Lfts 0) → Settled (parity-column.Post κs)
 parity_column_two_results κs a x y r s p q = p.0 ∙ sym q.0
+
+pub turned_two_results : (κs : Lfts 0) → Settled (turned.Post κs)
+turned_two_results κs a x y r s p q = p.0 ∙ sym q.0

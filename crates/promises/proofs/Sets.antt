@@ -8,7 +8,7 @@ use Rattle.sets.proofs.disk_bytes.Reads as disk-bytes
 use Rattle.sets.proofs.label_starts.Reads as label-starts
 use Rattle.sets.proofs.diagonal_starts.Reads as diagonal-starts
 
-pub region_starts_two_results : (κs : Lfts 2) → SettledAt (region-starts.Post κs) (λ a. a.1.1.1.0.now)
+pub region_starts_two_results : (κs : Lfts 3) → SettledAt (region-starts.Post κs) (λ a. a.1.1.0.now)
 region_starts_two_results κs a x y r s p q = (refl, p ∙ sym q)
 
 pub disk_bytes_two_results : (κs : Lfts 0) → Settled (disk-bytes.Post κs)
