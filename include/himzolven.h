@@ -163,7 +163,7 @@ typedef struct {
  *   changes   every number of `design`; what it held before does not count
  *   lent      `design` to this call alone
  *   aligned   `design` for uint16_t
- *   stack     384 bytes */
+ *   stack     192 bytes */
 himzolven_answer himzolven_fill(uint32_t v, uint16_t *design, size_t design_length);
 
 /* Checks that the list is a design of v groups in rows of k.
@@ -201,7 +201,7 @@ himzolven_map_answer himzolven_map(
  *   changes   nothing
  *   lent      `design` to be read
  *   aligned   `design` for uint16_t
- *   stack     8,576 bytes */
+ *   stack     8,512 bytes */
 himzolven_role_answer himzolven_role(
     uint32_t v, uint32_t k, uint32_t g, uint32_t u, const uint16_t *design, size_t design_length, uint32_t disk, uint32_t unit);
 
@@ -224,7 +224,7 @@ himzolven_answer himzolven_format(
  *   changes   every byte of `bytes`
  *   lent      `bytes` to this call alone; `design`, `array` and `marks` to be read
  *   aligned   `design` for uint16_t, the bytes anywhere
- *   stack     8,704 bytes */
+ *   stack     8,640 bytes */
 himzolven_answer himzolven_read(
     uint32_t v, uint32_t k, uint32_t g, uint32_t u, const uint16_t *design, size_t design_length, const uint8_t *array,
     size_t array_length, const uint8_t *marks, size_t marks_length, uint32_t user_unit, uint64_t offset, uint8_t *bytes,
@@ -238,7 +238,7 @@ himzolven_answer himzolven_read(
  *   changes   of `array` the range of four units, on four disks, that himzolven_map names; every other byte of it stays
  *   lent      `array` to this call alone, so `bytes` is no part of it; `design`, `marks` and `bytes` to be read
  *   aligned   `design` for uint16_t, the bytes anywhere
- *   stack     8,704 bytes */
+ *   stack     8,768 bytes */
 himzolven_answer himzolven_write(
     uint32_t v, uint32_t k, uint32_t g, uint32_t u, const uint16_t *design, size_t design_length, uint8_t *array,
     size_t array_length, const uint8_t *marks, size_t marks_length, uint32_t user_unit, uint64_t offset, const uint8_t *bytes,
@@ -251,7 +251,7 @@ himzolven_answer himzolven_write(
  *   changes   nothing
  *   lent      `design` and `array` to be read
  *   aligned   `design` for uint16_t, the bytes anywhere
- *   stack     9,088 bytes */
+ *   stack     9,024 bytes */
 himzolven_audit_answer himzolven_audit(
     uint32_t v, uint32_t k, uint32_t g, uint32_t u, const uint16_t *design, size_t design_length, const uint8_t *array,
     size_t array_length);
@@ -266,7 +266,7 @@ himzolven_audit_answer himzolven_audit(
  *   changes   of `array` the disks whose mark is 1, every byte of `marks`; no byte of a present disk
  *   lent      `array` and `marks` to this call alone, `design` to be read
  *   aligned   `design` for uint16_t, the bytes anywhere
- *   stack     16,512 bytes */
+ *   stack     15,360 bytes */
 himzolven_count_answer himzolven_rebuild(
     uint32_t v, uint32_t k, uint32_t g, uint32_t u, const uint16_t *design, size_t design_length, uint8_t *array,
     size_t array_length, uint8_t *marks, size_t marks_length);
@@ -284,7 +284,7 @@ himzolven_count_answer himzolven_rebuild(
  *   changes   the first 3*count numbers of `list`; its rest stays
  *   lent      `list` to this call alone, `design` to be read
  *   aligned   `design` for uint16_t, `list` for uint32_t
- *   stack     8,704 bytes */
+ *   stack     8,640 bytes */
 himzolven_count_answer himzolven_plan(
     uint32_t v, uint32_t k, uint32_t g, uint32_t u, const uint16_t *design, size_t design_length, uint32_t disk, uint32_t *list,
     size_t list_length);
