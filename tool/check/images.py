@@ -5,6 +5,7 @@ import random
 import resource
 import signal
 import struct
+from pathlib import Path
 from subprocess import PIPE
 
 from desk import (ARRAY, DONE, HEADER, HELD_BACK, IMAGE, IN_USE, INTERRUPTED, REFUSED, STATE, USAGE, WRITE, State, expect,
@@ -150,6 +151,7 @@ def shrunk(desk):
     tool = desk.start("write", path, "--at", 0, **PIPES)
     with open(path, "r+b") as file:
         wait_until(lambda: not is_free(file), "write takes the lock")
+        wait_until(lambda: str(path) in Path(f"/proc/{tool.pid}/maps").read_text(), "write maps the image")
         file.truncate(ARRAY)
     error = tool.communicate(b"x" * 1000, timeout=20)[1].decode()
     told = tool.returncode == IMAGE and "can't be read or written any more" in error
