@@ -1,24 +1,23 @@
--- Scans upwards that end at the first that passes a test: a set's units, a tuple's flags, a group's disks. Assumes nothing.
+-- Scans upwards that end at the first that passes a test, over a set's units. Assumes nothing.
 use Prim.Native.Nat.{ℕ, ◌+◌, ◌≤◌, ◌<◌}
 use mathlib.Core.Path.{◌≡◌, ap, sym, refl}
 use mathlib.Core.Bool.{Bool, true, false, not, ◌&&◌, ◌||◌}
 use mathlib.Core.List.{List}
 use native.Mathlib.Omega.{arith}
 use lib.Dec.{eqb}
-use lib.ListN.{length}
 use Rattle.counting.specs.Counting.{any_below}
 use Rattle.counting.proofs.Laws.{any_true, none_any}
 use Rattle.checking.proofs.Scan.{Scanned, scanned_next}
 use Rattle.peeling.specs.Peeling.{lacks_only}
 use Rattle.reaching.specs.declared.Set.{Set}
-use Rattle.reaching.specs.State.{side_of, seen, all_seen}
+use Rattle.reaching.specs.State.{side_of, seen}
 
 -- ---- some passes
 
-pub any_found : (f : ℕ → Bool) (n i : ℕ) → i < n → f i ≡ true → true ≡ any_below f n
+any_found : (f : ℕ → Bool) (n i : ℕ) → i < n → f i ≡ true → true ≡ any_below f n
 any_found f n i h p = sym (any_true f n i h p)
 
-pub any_left : (f : ℕ → Bool) (n i : ℕ) → Scanned f n i → n ≤ i → false ≡ any_below f n
+any_left : (f : ℕ → Bool) (n i : ℕ) → Scanned f n i → n ≤ i → false ≡ any_below f n
 any_left f n i s h = sym (none_any f n (λ (j : ℕ) (q : j < n). s.before j (omega arith)))
 
 -- ---- a set's units
@@ -53,15 +52,3 @@ pub units_all :
     → true ≡ lacks_only (seen flags) (side_of x)
 unfolding lacks_only side_of
 units_all flags x q s h = ap not (any_left (lacking flags x) x.size q s h)
-
--- ---- a tuple's flags
-
-pub flag_clear : (flags : List Bool) (n : ℕ) → n < length flags → not (seen flags n) ≡ true → false ≡ all_seen flags
-unfolding all_seen
-flag_clear flags n h p = ap not (any_found (λ (i : ℕ). not (seen flags i)) (length flags) n h p)
-
-pub flags_set :
-    (flags : List Bool) (n : ℕ) → Scanned (λ (i : ℕ). not (seen flags i)) (length flags) n → length flags ≤ n
-    → true ≡ all_seen flags
-unfolding all_seen
-flags_set flags n s h = ap not (any_left (λ (i : ℕ). not (seen flags i)) (length flags) n s h)

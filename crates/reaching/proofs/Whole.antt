@@ -1,19 +1,17 @@
 -- The passes over a tuple as a whole: left at once, or gone through from the start. Assumes nothing.
-use Prim.Native.Nat.{ℕ, ◌+◌, ◌*◌, ◌≤◌, ◌<◌}
-use mathlib.Core.Path.{◌≡◌, ◌∙◌, ap, sym}
+use Prim.Native.Nat.{ℕ, ◌+◌, ◌*◌, ◌≤◌}
+use mathlib.Core.Path.{◌≡◌, ◌∙◌, ap}
 use mathlib.Core.Bool.{Bool, true, false, not}
 use mathlib.Core.List.{List}
 use native.Mathlib.Omega.{arith}
 use lib.ListN.{get_or, length}
 use Rattle.counting.specs.Counting.{any_below}
 use Rattle.counting.proofs.Laws.{count_le}
-use Rattle.checking.proofs.Scan.{Scanned, scanned_next}
 use Rattle.geometry.specs.declared.Geometry.{Geometry}
 use Rattle.design.specs.Design.{group_at}
 use Rattle.reaching.specs.Reach.{tuple_cells_of}
 use Rattle.reaching.specs.State.{State, state, seen, missing, Room, passed, start_flag, start_flags, touched_of, all_seen}
 use Rattle.reaching.specs.State.{ReachRoom, reached_state, reached_all}
-use Rattle.reaching.proofs.Scans.{any_found, any_left}
 use Rattle.reaching.proofs.Fills.{length_tests}
 use Rattle.reaching.proofs.Turns.{Kept, passed_kept}
 
@@ -22,22 +20,6 @@ use Rattle.reaching.proofs.Turns.{Kept, passed_kept}
 -- a disk of the group at position l is lost
 abbrev pub lost_at : Geometry → List ℕ → (lost : List Bool) → (t l : ℕ) → Bool
 lost_at G d lost t l = any_below (λ (x : ℕ). get_or lost (group_at G.k d t l * G.g + x) false) G.g
-
-module _ (G : Geometry) (d : List ℕ) (lost : List Bool) (t l : ℕ) where
-  module _ (base : ℕ) (b : Bool) (e : base ≡ group_at G.k d t l * G.g) (q : b ≡ any_below (λ (x : ℕ). get_or lost (base + x) false) G.g) where
-    at_group : b ≡ lost_at G d lost t l
-    at_group = rw e at q
-
-    pub group_next : Scanned (lost_at G d lost t) G.k l → l < G.k → b ≡ false → Scanned (lost_at G d lost t) G.k (l + 1)
-    group_next s h p = scanned_next (lost_at G d lost t) G.k l s h (sym at_group ∙ p)
-
-    pub group_lost : l < G.k → b ≡ true → true ≡ touched_of G d lost t
-    unfolding touched_of
-    group_lost h p = any_found (lost_at G d lost t) G.k l h (sym at_group ∙ p)
-
-  pub groups_held : Scanned (lost_at G d lost t) G.k l → G.k ≤ l → false ≡ touched_of G d lost t
-  unfolding touched_of
-  groups_held s h = any_left (lost_at G d lost t) G.k l s h
 
 -- ---- the whole
 
@@ -61,9 +43,6 @@ module _ (G : Geometry) (d : List ℕ) (lost : List Bool) (t : ℕ) (flags : Lis
 
       pub start_passed_long : length s.flags ≡ tuple_cells_of G
       start_passed_long = kept.flags ∙ start_long
-
-      pub reach_lengths : (length s.flags ≡ length flags) × (length s.log ≡ length log)
-      reach_lengths = (omega (arith, kept.flags, start_long, m.cells), kept.log)
 
       reach_state : not b ≡ false → s ≡ reached_state G d lost t flags log
       unfolding reached_state

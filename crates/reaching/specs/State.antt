@@ -137,10 +137,6 @@ unfoldable pub tests_of : (ℕ → Bool) → ℕ → List Bool
 tests_of f zero = []
 tests_of f (suc n) = tests_of f n ++ (f n ∷ [])
 
--- disk base + x is not lost
-abbrev pub held_from : (lost : List Bool) → (base x : ℕ) → Bool
-held_from lost base x = not (get_or lost (base + x) false)
-
 -- the disks' flags say that cell n of tuple t is present
 unfoldable pub start_flag : Geometry → List ℕ → (lost : List Bool) → (t n : ℕ) → Bool
 start_flag G d lost t n = not (get_or lost (place_of G d (cell_numbered G t n)).disk.0 false)
