@@ -52,7 +52,8 @@
  *
  * Cost. Each call checks the design anew: docs/SPEED.md has the instructions for each v and k.
  *
- * Linking. The archive calls memset, and memcpy or memmove where the compiler chooses so; nothing else from outside.
+ * Linking. The archive calls memset and memcpy; nothing else from outside. It has no data with addresses, so nothing of it is
+ * relocated where a program is loaded.
  */
 #ifndef HIMZOLVEN_H
 #define HIMZOLVEN_H
