@@ -52,7 +52,8 @@
  *
  * Cost. Each call checks the design anew: docs/SPEED.md has the instructions for each v and k.
  *
- * Linking. The archive calls memset, and memcpy or memmove where the compiler chooses so; nothing else from outside.
+ * Linking. The archive calls memset and memcpy; nothing else from outside. It has no data with addresses, so nothing of it is
+ * relocated where a program is loaded.
  */
 #ifndef HIMZOLVEN_H
 #define HIMZOLVEN_H
@@ -238,7 +239,7 @@ himzolven_answer himzolven_read(
  *   changes   of `array` the range of four units, on four disks, that himzolven_map names; every other byte of it stays
  *   lent      `array` to this call alone, so `bytes` is no part of it; `design`, `marks` and `bytes` to be read
  *   aligned   `design` for uint16_t, the bytes anywhere
- *   stack     8,768 bytes */
+ *   stack     8,640 bytes */
 himzolven_answer himzolven_write(
     uint32_t v, uint32_t k, uint32_t g, uint32_t u, const uint16_t *design, size_t design_length, uint8_t *array,
     size_t array_length, const uint8_t *marks, size_t marks_length, uint32_t user_unit, uint64_t offset, const uint8_t *bytes,

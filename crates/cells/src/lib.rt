@@ -31,6 +31,11 @@ pub enum Role {
 }
 
 impl fmt::Display for Role {
+    ghost use Rattle.std.specs.Prelude.{Some};
+    ghost use Rattle.cells.specs.Text.{role_text};
+
+    ghost output = { λ x. Some (role_text x) };
+
     fn fmt<W: fmt::Write>(&self, f: &mut fmt::Formatter<W>) -> fmt::Result {
         match self {
             Role::User(n) => write!(f, "user {}", n.0),

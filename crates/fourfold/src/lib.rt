@@ -48,7 +48,9 @@ fn add_four(array: &mut [u8], starts: [usize; 4], new: &[u8])
     add_block(array, starts, new.len() - rest.len(), rest);
 }
 
-// Writes a range whose call is checked: one check may serve many of these.
+// Writes a range whose call is checked: one check may serve many of these. It is called, not inlined, so that what it keeps on the
+// stack does not stand there while the design is checked.
+#[inline(never)]
 pub fn write_checked(geometry: Geometry, array: &mut [u8], four: Four, offset: u64, bytes: &[u8])
     requires { Sound geometry × FourIn geometry four × (offset + length bytes.now ≤ geometry.u) × (length array.old ≡ bytes_of geometry) }
     ensures { array.new ≡ written array.old (data_start geometry four offset) (parity_starts geometry four offset) bytes.now }

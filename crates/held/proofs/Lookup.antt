@@ -6,21 +6,25 @@ use mathlib.Core.List.{List, [], ◌∷◌, map}
 use native.Mathlib.Nat.{not-suc-le-zero, le_of_suc-le-suc}
 use native.Mathlib.Omega.{arith}
 use denote.Ref.{Bor}
-use lib.ListN.{length, get_or}
-use Rattle.std.specs.Prelude.{Option, Some, None, MatchOption, IsSomeAnd}
+use lib.ListN.{length, get_or, take}
+use Rattle.std.specs.Prelude.{Option, Some, None, MatchOption}
 use Rattle.std.specs.List.{AllWithin, HoldsAt}
 use Rattle.held.specs.declared.Held.{Held as Row}
 use Rattle.held.specs.Held.{Held, held, table, set_for}
 use Rattle.held.specs.Reasons.{HeldSet, NoSet}
 use Rattle.held.proofs.Table.{held_found, none_found}
 
+-- the set of a row: its first members
 abbrev pub row : Row → Held
-row x = held x.v x.set.now
+row x = held x.v (take x.length x.members)
 
 -- a row of the table is held
-held_at : (xs : List Row) (v i : ℕ) (x : Row) → x.v ≡ v → i < length xs → get_or xs i x ≡ x → HeldSet (map row xs) v x.set.now
+held_at :
+    (xs : List Row) (v i : ℕ) (x : Row) → x.v ≡ v → i < length xs → get_or xs i x ≡ x
+    → HeldSet (map row xs) v (take x.length x.members)
 held_at [] v i x e h w = absurd (not-suc-le-zero h)
-held_at (y ∷ xs) v zero x e h w = inl (ap (λ (z : Row). z.v) w ∙ e, ap (λ (z : Row). z.set.now) w)
+held_at (y ∷ xs) v zero x e h w =
+    inl (ap (λ (z : Row). z.v) w ∙ e, ap (λ (z : Row). take z.length z.members) w)
 held_at (y ∷ xs) v (suc i) x e h w = inr (held_at xs v i x e (le_of_suc-le-suc h) w)
 
 -- what no row has is not
@@ -30,16 +34,17 @@ not_held_in [] v h s w = w
 not_held_in (y ∷ xs) v h s (inl w) = h 0 y (omega arith) w.0
 not_held_in (y ∷ xs) v h s (inr w) = not_held_in xs v (λ i d q. h (suc i) d (omega arith)) s w
 
-pub looked_up :
-    (xs : List Row) (t : List Held) (v : ℕ) (found : Option (Bor Row)) (r : Option (Bor (List ℕ))) → map row xs ≡ t
-    → MatchOption found (AllWithin (λ x. x.v ≡ v → ⊥) xs 0 (length xs))
-    (λ x. (x.now.v ≡ v) × (i : ℕ) × (i < length xs) × HoldsAt (λ y. y ≡ x.now) xs i × AllWithin (λ x. x.v ≡ v → ⊥) xs 0 i)
-    → MatchOption found (r ≡ None) (λ x. IsSomeAnd r (λ set. set.now ≡ x.now.set.now))
-    → MatchOption r ((s : List ℕ) → HeldSet t v s → ⊥) (λ set. HeldSet t v set.now)
-looked_up xs t v None None m h e = rw (← m) (not_held_in xs v (λ i d q. h i d (omega arith) q))
-looked_up xs t v None (Some set) m h e = absurd (cc)
-looked_up xs t v (Some x) None m h e = absurd e
-looked_up xs t v (Some x) (Some set) m h e = rw (← m, e) (held_at xs v h.1 x.now h.0 h.2 (h.3 x.now))
+-- no row has the v: then no set is held for it
+pub nothing_found :
+    (xs : List Row) (t : List Held) (v : ℕ) → map row xs ≡ t → AllWithin (λ x. x.v ≡ v → ⊥) xs 0 (length xs)
+    → (s : List ℕ) → HeldSet t v s → ⊥
+nothing_found xs t v m h = rw (← m) (not_held_in xs v (λ i d q. h i d (omega arith) q))
+
+-- a row has it: then its set is held
+pub row_found :
+    (xs : List Row) (t : List Held) (v : ℕ) (x : Row) → map row xs ≡ t → x.v ≡ v
+    → (i : ℕ) → i < length xs → HoldsAt (λ y. y ≡ x) xs i → HeldSet t v (take x.length x.members)
+row_found xs t v x m e i h q = rw (← m) (held_at xs v i x e h (q x))
 
 -- how many members the set has that a search found
 pub size_is :

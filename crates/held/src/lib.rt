@@ -10,42 +10,51 @@ ghost use Rattle.held.specs.Developed.{Developable, first_past, developed};
 
 use refusal::Refusal;
 
-// "a v and its set"
+// A row of the table: "a v and its set", the first `length` of ten members.
 #[derive(Clone, Copy)]
 struct Held {
     v: u32,
-    set: &'static [u16],
+    length: usize,
+    members: [u16; 10],
 }
 
-// 000's table 1, with 57 for its fifth v (01).
+// 000's table 1, with 57 for its fifth v (01), each set padded to ten members: no addresses, so that nothing is to be relocated
+// where a program is loaded.
 static TABLE: [Held; 7] = [
     Held {
         v: 7,
-        set: &[0, 1, 3],
+        length: 3,
+        members: [0, 1, 3, 0, 0, 0, 0, 0, 0, 0],
     },
     Held {
         v: 13,
-        set: &[0, 1, 3, 9],
+        length: 4,
+        members: [0, 1, 3, 9, 0, 0, 0, 0, 0, 0],
     },
     Held {
         v: 21,
-        set: &[0, 1, 4, 14, 16],
+        length: 5,
+        members: [0, 1, 4, 14, 16, 0, 0, 0, 0, 0],
     },
     Held {
         v: 31,
-        set: &[0, 1, 3, 8, 12, 18],
+        length: 6,
+        members: [0, 1, 3, 8, 12, 18, 0, 0, 0, 0],
     },
     Held {
         v: 57,
-        set: &[0, 1, 3, 13, 32, 36, 43, 52],
+        length: 8,
+        members: [0, 1, 3, 13, 32, 36, 43, 52, 0, 0],
     },
     Held {
         v: 73,
-        set: &[0, 1, 3, 7, 15, 31, 36, 54, 63],
+        length: 9,
+        members: [0, 1, 3, 7, 15, 31, 36, 54, 63, 0],
     },
     Held {
         v: 91,
-        set: &[0, 1, 3, 9, 27, 49, 56, 61, 77, 81],
+        length: 10,
+        members: [0, 1, 3, 9, 27, 49, 56, 61, 77, 81],
     },
 ];
 
@@ -53,7 +62,10 @@ static TABLE: [Held; 7] = [
 fn set_of(v: u32) -> Option<&'static [u16]>
     ensures { MatchOption result (NoSet v) (λ set. HeldSet table v set.now) }
 {
-    TABLE.iter().find(|held| held.v == v).map(|held| held.set)
+    let Some(held) = TABLE.iter().find(|held| held.v == v) else {
+        return None;
+    };
+    Some(&held.members[..held.length])
 }
 
 // Where row i splits the set: the first member that reaches v where i is added to it, and the set's end where none does.

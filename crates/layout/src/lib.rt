@@ -25,6 +25,11 @@ pub struct Place {
 }
 
 impl fmt::Display for Place {
+    ghost use Rattle.std.specs.Prelude.{Some, codes, ◌++◌};
+    ghost use Rattle.std.specs.Fmt.{decimal};
+
+    ghost output = { λ x. Some (decimal x.disk.0 ++ (codes "/" ++ decimal x.unit.0)) };
+
     fn fmt<W: fmt::Write>(&self, f: &mut fmt::Formatter<W>) -> fmt::Result {
         write!(f, "{}/{}", self.disk.0, self.unit.0)
     }

@@ -15,12 +15,14 @@ pub fn xor_into(dst: &mut [u8], src: &[u8])
     }
 }
 
-// Copies src over dst.
+// Copies src over dst. (`copy_from_slice` would be a call of memmove, a name that the archive does not ask for.)
 pub fn copy_into(dst: &mut [u8], src: &[u8])
     requires { length src.now ≡ length dst.old }
     ensures { dst.new ≡ src.now }
 {
-    dst.copy_from_slice(src);
+    for (i, byte) in dst.iter_mut().enumerate() {
+        *byte = src[i];
+    }
 }
 
 // Makes every byte zero.

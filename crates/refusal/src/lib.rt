@@ -81,6 +81,12 @@ impl Refusal {
 
 // "A refusal prints `refused`, a space and its number".
 impl fmt::Display for Refusal {
+    ghost use Rattle.std.specs.Prelude.{Some, codes, ◌++◌};
+    ghost use Rattle.std.specs.Fmt.{decimal};
+    ghost use Rattle.refusal.specs.Refusal.{number_of};
+
+    ghost output = { λ x. Some (codes "refused " ++ decimal (number_of x)) };
+
     fn fmt<W: fmt::Write>(&self, f: &mut fmt::Formatter<W>) -> fmt::Result {
         write!(f, "refused {}", self.number())
     }

@@ -92,6 +92,24 @@ module _ (ps : List ℕ) (q : ℕ) (h : q < length ps) where
 pub own_fits : {m : ℕ} {ps : List ℕ} {q u : ℕ} → OneOf m ps q u → get_or ps q 0 + u ≤ m
 own_fits {m} {ps} {q} o = o.inside.inside q o.below
 
+-- shorter runs
+pub one_shorter : (m : ℕ) (ps : List ℕ) (q u k : ℕ) → OneOf m ps q u → k ≤ u → OneOf m ps q k
+one_shorter m ps q u k o h = record {
+  inside = record { inside = λ (t : ℕ) (l : t < length ps). omega (arith, o.inside.inside t l) };
+  spread = record {
+    spread =
+        λ (s t : ℕ) (i : s < length ps) (j : t < length ps) (e : s ≡ t → ⊥).
+        let x : ℕ = get_or ps s 0 in
+        let y : ℕ = get_or ps t 0 in
+        record {
+          apart =
+              ⊎_elim (λ (l : x + u ≤ y). inl (omega arith)) (λ (l : y + u ≤ x). inr (omega arith))
+              (o.spread.spread s t i j e).apart;
+        };
+  };
+  below = o.below;
+}
+
 -- ---- one of the runs becomes the sum of the others
 module _ (a ps : List ℕ) (q u : ℕ) (o : OneOf (length a) ps q u) where
   abbrev p : ℕ

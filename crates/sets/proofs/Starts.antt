@@ -2,14 +2,14 @@
 use Prim.Native.Nat.{ℕ, zero, suc, ◌+◌, ◌-◌, ◌*◌, ◌≤◌, ◌<◌}
 use mathlib.Core.Path.{◌≡◌, refl, sym, ap, ap₂, ◌∙◌}
 use mathlib.Core.List.{List, [], ◌∷◌, ◌++◌}
-use native.Mathlib.Nat.{mul-le-mul_right}
+use native.Mathlib.Nat.{mul-le-mul, mul-le-mul_right}
 use native.Mathlib.Omega.{arith}
 use lib.ListN.{get_or, length}
 use Rattle.counting.specs.Lists.{list_of}
 use Rattle.counting.proofs.Lists.{list_of_length, list_of_at}
 use Rattle.geometry.specs.declared.Geometry.{Geometry}
 use Rattle.geometry.specs.Geometry.{Sound, tuples_of, units_of, bytes_of}
-use Rattle.geometry.proofs.Laws.{bytes_bound}
+use Rattle.geometry.proofs.Laws.{units_bound, bytes_bound}
 use Rattle.design.specs.Design.{Laid}
 use Rattle.region.specs.Columns.{label_column, diagonal_column}
 use Rattle.cells.specs.Cells.{cell}
@@ -22,6 +22,10 @@ use Rattle.array.specs.Array.{start_of, cell_start}
 use Rattle.array.proofs.Starts.{cell_start_in}
 use Rattle.consistent.specs.Consistent.{outer_starts, inner_starts}
 use Rattle.sets.specs.Starts.{region_starts, disk_bytes, unit_from, RegionFits, RegionsFit, label_starts, diagonal_starts}
+
+pub disk_bytes_bound : (G : Geometry) → Sound G → disk_bytes G ≤ 4792320
+unfolding disk_bytes
+disk_bytes_bound G s = mul-le-mul (units_bound G s) s.u_high
 
 -- a step of the column is a disk, a step of the row a unit
 stepped :
